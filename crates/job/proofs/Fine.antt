@@ -9,9 +9,10 @@ use lib.Dec.{eqb, ltb, leb}
 use lib.IntN.{ℤ, pos, negsuc, natAbs, _+ℤ_}
 use lib.ListN.{length, getD}
 use lib.Signed.{leZ, ltZ}
-use Rattle.kinds.specs.Kinds.{within}
+use Rattle.kinds.specs.Kinds.{within, isValue}
 use Rattle.job.specs.Tests.{some, filled}
-use Rattle.job.specs.Columns.{Columns, numberOf, outside, unequal, noTask, badTask, badPart, badCylinder, fault1, fault2, fault3, fault4, fault5, fault6, Bytes, RecordsFit}
+use Rattle.job.specs.Columns.{Columns, numberOf, outside, unequal, noTask, badTask, badPart, badRecord, badRecords, Bytes, RecordsFit}
+use Rattle.job.specs.Columns.{fault1, fault2, fault3, fault4, fault5, fault6}
 use Rattle.job.specs.Jobs.{jobOf, bytesIn, numbersIn, Small, JobSized, kindOf, isSource, aOf, bOf, fromOf, toOf}
 use Rattle.job.specs.Rules.{columnFaults, firstFault}
 use Rattle.job.proofs.Bools.{both-true, neither}
@@ -54,15 +55,17 @@ fine2 f t e =
     record { few-channels = ltb-false 32 (length f) (x .0); to-long = equal t (length f) (x .1) }
 
 pub fine4 : (c v : List ℤ) → fault4 c v ≡ false → RecordsFit c v
-unfolding fault4 badCylinder
+unfolding fault4 badRecords badRecord
 fine4 c v e =
-    let bad = some (λ i. outside (pos 1) (numberOf c i) (pos 20)) (length c) in
-    let x = neither (ltb 16384 (length c) || unequal v (length c)) bad e in
+    let x = neither (ltb 16384 (length c) || unequal v (length c)) (badRecords c v) e in
     let y = neither (ltb 16384 (length c)) (unequal v (length c)) (x .0) in
+    let z : (i : ℕ) → i < length c → (outside (pos 1) (numberOf c i) (pos 20) ≡ false) × (not (isValue (numberOf v i)) ≡ false) =
+    λ i l. neither _ _ (some-none (λ i. badRecord (numberOf c i) (numberOf v i)) (length c) (x .1) i l) in
     record {
       few-records = ltb-false 16384 (length c) (y .0);
       values-long = equal v (length c) (y .1);
-      cylinders = λ i l. not-false (within (pos 1) (numberOf c i) (pos 20)) (some-none _ (length c) (x .1) i l);
+      cylinders = λ i l. not-false (within (pos 1) (numberOf c i) (pos 20)) (z i l .0);
+      values = λ i l. not-false (isValue (numberOf v i)) (z i l .1);
     }
 
 -- ---- the job by value

@@ -10,7 +10,7 @@ use lib.IntN.{ℤ, pos, natAbs, _+ℤ_}
 use lib.ListN.{length, getD}
 use lib.Signed.{leZ, ltZ}
 use Rattle.tally.specs.declared.Record.{Record}
-use Rattle.kinds.specs.Kinds.{within}
+use Rattle.kinds.specs.Kinds.{within, isValue}
 use Rattle.job.specs.Tests.{some}
 
 -- tasks: kind, a, b; channels: from, to; records: cylinder, value
@@ -62,11 +62,15 @@ unfoldable pub fault3 : List ℤ → List ℤ → List ℤ → Bool
 fault3 k a b = some (λ t. badTask (numberOf k t) (numberOf a t) (numberOf b t)) (length k)
 
 -- 4: "more than 16,384 records, unequal columns, or a cylinder outside 1 to 20"
-unfoldable pub badCylinder : List ℤ → Bool
-badCylinder c = some (λ i. outside (pos 1) (numberOf c i) (pos 20)) (length c)
+-- (a lent value is always one of 32 bits: so says its type)
+unfoldable pub badRecord : ℤ → ℤ → Bool
+badRecord cylinder value = outside (pos 1) cylinder (pos 20) || not (isValue value)
+
+unfoldable pub badRecords : List ℤ → List ℤ → Bool
+badRecords c v = some (λ i. badRecord (numberOf c i) (numberOf v i)) (length c)
 
 unfoldable pub fault4 : List ℤ → List ℤ → Bool
-fault4 c v = ltb 16384 (length c) || unequal v (length c) || badCylinder c
+fault4 c v = ltb 16384 (length c) || unequal v (length c) || badRecords c v
 
 -- record i of the lent columns
 abbrev pub recordAt : List ℤ → List ℤ → ℕ → Record
@@ -77,6 +81,7 @@ pub record RecordsFit (c v : List ℤ) : Type 0 where
   pub few-records : length c ≤ 16384
   pub values-long : length v ≡ length c
   pub cylinders : (i : ℕ) → i < length c → within (pos 1) (numberOf c i) (pos 20) ≡ true
+  pub values : (i : ℕ) → i < length c → isValue (numberOf v i) ≡ true
 
 -- 5: "a source with a < 0, b outside 0 to 4,096, or a+b above the number of records"
 unfoldable pub badPart : ℤ → ℤ → ℤ → ℕ → Bool

@@ -8,8 +8,8 @@ use native.Mathlib.Omega.{arith}
 use lib.IntN.{ℤ, pos, negsuc}
 use lib.ListN.{length, replicate, getD-replicate}
 use Rattle.job.specs.Tests.{some, every, filled, sweep, sweeps}
-use Rattle.job.specs.Columns.{Columns, columns, numberOf, outside, fault1, fault2, fault3, fault4, fault5, fault6}
-use Rattle.job.specs.Columns.{badTask, offTable, badPart, badCylinder}
+use Rattle.job.specs.Columns.{Columns, columns, numberOf, fault1, fault2, fault3, fault4, fault5, fault6}
+use Rattle.job.specs.Columns.{badTask, offTable, badPart, badRecord, badRecords}
 use Rattle.job.specs.Jobs.{jobOf}
 use Rattle.job.specs.Rules.{jobAnswer, firstFault, graphFaults, hasInput, fault7, fault8, fault9}
 use Rattle.job.specs.Rules.{strike, struckTasks, capped, cappedInflow, worstAnew, worstCounts}
@@ -52,14 +52,16 @@ chain n = record {
 }
 
 -- ---- its 4,096 cylinders are in order: by a law, since to compute it place by place would take a minute
-ones-fine : (n k : ℕ) → k ≤ n → some (λ i. outside (pos 1) (numberOf (replicate n (pos 1)) i) (pos 20)) k ≡ false
-unfolding some
+ones-fine : (n k : ℕ) → k ≤ n
+    → some (λ i. badRecord (numberOf (replicate n (pos 1)) i) (numberOf (replicate n (pos 0)) i)) k ≡ false
+unfolding some badRecord
 ones-fine n zero h = refl
 ones-fine n (suc k) h =
-    ap₂ _||_ (ones-fine n k (omega arith)) (ap (λ x. outside (pos 1) x (pos 20)) (getD-replicate n k (pos 1) (pos 0) (omega arith)))
+    ap₂ _||_ (ones-fine n k (omega arith))
+    (ap₂ badRecord (getD-replicate n k (pos 1) (pos 0) (omega arith)) (getD-replicate n k (pos 0) (pos 0) (omega arith)))
 
 records-fine : (n : ℕ) → fault4 (chain n .cylinders) (chain n .values) ≡ false
-unfolding fault4 badCylinder
+unfolding fault4 badRecords
 records-fine n = ones-fine 4096 4096 (omega arith)
 
 -- the answer, given what line 4 says
@@ -87,6 +89,6 @@ pub table :
     × (jobAnswer (chain 9) ≡ 9)
     × (jobAnswer station ≡ 0)
 unfolding some every filled sweep sweeps jobOf jobAnswer firstFault capped cappedInflow
-    fault1 fault2 fault3 fault4 fault5 fault6 badTask offTable badPart badCylinder
+    fault1 fault2 fault3 fault4 fault5 fault6 badTask offTable badPart badRecord badRecords
     hasInput fault7 fault8 fault9 strike struckTasks worstAnew worstCounts
 table = (refl, refl, refl, by-line4 8, by-line4 9, refl)

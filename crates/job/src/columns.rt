@@ -2,7 +2,8 @@
 ghost use mathlib.Core.Path.{_≡_};
 ghost use Prim.Native.Nat.{_≤_};
 ghost use lib.ListN.{length};
-ghost use Rattle.job.specs.Columns.{outside, noTask, offTable, badTask, badPart, badCylinder, fault1, fault2, fault3, fault4, fault5, fault6};
+ghost use Rattle.job.specs.Columns.{outside, noTask, offTable, badTask, badPart, badRecord, badRecords};
+ghost use Rattle.job.specs.Columns.{fault1, fault2, fault3, fault4, fault5, fault6};
 use kinds::is_within;
 
 fn is_outside(low: i32, x: i32, high: i32) -> bool
@@ -57,13 +58,20 @@ pub fn has_fault_3(kinds: &[i32], a: &[i32], b: &[i32]) -> bool
     found
 }
 
-fn has_bad_cylinder(cylinders: &[i32]) -> bool
-    ensures { λ r. ⌜ r ≡ badCylinder (now (cylinders .entry)) ⌝ }
+fn is_bad_record(cylinder: i32, value: i32) -> bool
+    ensures { λ r. ⌜ r ≡ badRecord cylinder value ⌝ }
+{
+    is_outside(1, cylinder, 20) | is_outside(-2147483648, value, 2147483647)
+}
+
+fn has_bad_record(cylinders: &[i32], values: &[i32]) -> bool
+    requires { ⌜ length (now values) ≡ length (now cylinders) ⌝ }
+    ensures { λ r. ⌜ r ≡ badRecords (now (cylinders .entry)) (now (values .entry)) ⌝ }
 {
     let mut found = false;
     let mut i: usize = 0;
     while i < cylinders.len() {
-        found = found | is_outside(1, cylinders[i], 20);
+        found = found | is_bad_record(cylinders[i], values[i]);
         i += 1;
     }
     found
@@ -72,7 +80,10 @@ fn has_bad_cylinder(cylinders: &[i32]) -> bool
 pub fn has_fault_4(cylinders: &[i32], values: &[i32]) -> bool
     ensures { λ r. ⌜ r ≡ fault4 (now (cylinders .entry)) (now (values .entry)) ⌝ }
 {
-    (16384 < cylinders.len()) | (values.len() != cylinders.len()) | has_bad_cylinder(cylinders)
+    if (16384 < cylinders.len()) | (values.len() != cylinders.len()) {
+        return true;
+    }
+    has_bad_record(cylinders, values)
 }
 
 // The sum is one of 64 bits, so that nothing wraps.

@@ -1,15 +1,20 @@
 -- `job::columns::has_fault_4` meets its contract.
 use Rattle.job.specs.Columns.{fault4}
-use borrow.Author.Needs.{needs}
+use Rattle.job.proofs.Bools.{neither}
+use borrow.Author.Tests.{not-false, eqb-true}
 use Rattle.job.proofs.columns.has_fault_4.Statement.{statement}
 use Rattle.job.proofs.columns.has_fault_4.Tie as tie
 
-has-bad-cylinder-requires : tie.Need-has-bad-cylinder-requires
-has-bad-cylinder-requires c κs = search needs
-
 returns : tie.Need-returns
 unfolding fault4
-returns c = simp (c .has-bad-cylinder .ensures)
+returns c = simp (c .if1 .taken)
+
+has-bad-record-requires : tie.Need-has-bad-record-requires
+has-bad-record-requires c κs = eqb-true _ _ (not-false _ (neither _ _ (c .if1 .left) .1))
+
+returns-2 : tie.Need-returns-2
+unfolding fault4
+returns-2 c = simp (c .before .if1 .left, c .has-bad-record .ensures)
 
 pub has-fault-4-spec : {M : Type 1} → statement M
-has-fault-4-spec = tie.close (tie.spec has-bad-cylinder-requires returns)
+has-fault-4-spec = tie.close (tie.spec returns has-bad-record-requires returns-2)
