@@ -46,7 +46,7 @@ loop-less : tie.Need-loop-less Inv-loop μ-loop
 loop-less c = search needs
 
 loop-again : tie.Need-loop-again Inv-loop μ-loop
-loop-again c = 
+loop-again c =
     let b = c .before .before .before .before .before in
     let i = c .before .before .before .before .loop .i in
     let x : SFits w32 (numberOf (b .args .cylinders .now) i) = search needs in
