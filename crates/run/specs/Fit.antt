@@ -1,0 +1,119 @@
+-- The fit of a run (document 01, answer 16), clause by clause in the document's order (`Fits`):
+--   "It fits when every channel holds at most 8 items with cylinders 1 to 20; things are held only for tasks and channels that the job
+--    has; a barrier waits only at sources; and in the live, half-taken and last complete totals each count is at most 1,048,576, a
+--    source's count at most its b, the sum between -2^31 and 2^31 - 1 times the count, and least and greatest 0 where the count is 0."
+-- Below it stands the test that the code computes (`runFits`), place by place; that the two agree, both ways and for any run whatever, is
+-- `fits-exact` in proofs/Clauses.antt. The rules on totals are asked of all three sets, whatever the flags say.
+use mathlib.Core.Path.{_≡_}
+use mathlib.Core.Bool.{Bool, true, false, cond, not, _&&_, _||_}
+use mathlib.Core.List.{List}
+use Prim.Native.Nat.{ℕ, _*_, _<_, _≤_}
+use lib.Dec.{eqb, ltb, leb}
+use lib.IntN.{ℤ, pos, negℤ, natAbs}
+use lib.ListN.{getD}
+use lib.Signed.{leZ}
+use Rattle.tally.specs.declared.Totals.{Totals}
+use Rattle.tally.specs.Totals.{noTotals}
+use Rattle.kinds.specs.Kinds.{within, isValue}
+use Rattle.channel.specs.declared.Cargo.{Cargo}
+use Rattle.channel.specs.declared.Cargo.the-variants.{Barrier, Record}
+use Rattle.channel.specs.declared.Channel.{Channel}
+use Rattle.channel.specs.Channels.{barrier}
+use Rattle.job.specs.declared.Job.{Job}
+use Rattle.job.specs.Tests.{every}
+use Rattle.job.specs.Jobs.{bOf, isSource}
+use Rattle.run.specs.declared.Run.{Run}
+use Rattle.run.specs.Runs.{noChannel}
+
+-- ---- reading a run
+abbrev pub channelAt : Run → ℕ → Channel
+channelAt run c = getD (run .channels) c noChannel
+
+abbrev pub totalsAt : List Totals → ℕ → Totals
+totalsAt l t = getD l t noTotals
+
+abbrev pub flagAt : List Bool → ℕ → Bool
+flagAt l i = getD l i false
+
+-- ---- the clauses
+-- "cylinders 1 to 20"; a value is always one of 32 bits: so says its type
+abbrev pub cargoFits : Cargo → Bool
+cargoFits Barrier = true
+cargoFits (Record r) = leb 1 (r .cylinder) && leb (r .cylinder) 20 && isValue (r .value)
+
+-- "the sum between -2^31 and 2^31 - 1 times the count"
+abbrev pub sumFits : ℤ → ℕ → Bool
+sumFits sum count = leZ (negℤ (pos (count * 2147483648))) sum && leZ sum (pos (count * 2147483647))
+
+abbrev pub isZero : ℤ → Bool
+isZero z = within (pos 0) z (pos 0)
+
+-- "every channel holds at most 8 items with cylinders 1 to 20"
+pub record ChannelFits (ch : Channel) : Type 0 where
+  pub room : ch .count ≤ 8
+  pub cylinders : (j : ℕ) → j < ch .count → cargoFits (getD (ch .items) j barrier .cargo) ≡ true
+
+-- "each count is at most 1,048,576, a source's count at most its b, the sum between .., and least and greatest 0 where the count is 0"
+pub record TotalsFit (job : Job) (t : ℕ) (x : Totals) : Type 0 where
+  pub counts : x .count ≤ 1048576
+  pub source : isSource job t ≡ true → x .count ≤ natAbs (bOf job t)
+  pub sums : sumFits (x .sum) (x .count) ≡ true
+  pub empty : x .count ≡ 0 → (x .least ≡ pos 0) × (x .greatest ≡ pos 0)
+
+-- "in the live, half-taken and last complete totals"
+pub record TaskFits (job : Job) (run : Run) (t : ℕ) : Type 0 where
+  pub live : TotalsFit job t (totalsAt (run .live) t)
+  pub half : TotalsFit job t (totalsAt (run .half) t)
+  pub last : TotalsFit job t (totalsAt (run .last) t)
+
+-- nothing is held for a task
+pub record NothingHeld (run : Run) (t : ℕ) : Type 0 where
+  pub live : totalsAt (run .live) t ≡ noTotals
+  pub half : totalsAt (run .half) t ≡ noTotals
+  pub last : totalsAt (run .last) t ≡ noTotals
+  pub stored : flagAt (run .stored) t ≡ false
+  pub waiting : flagAt (run .waiting) t ≡ false
+
+pub record Fits (job : Job) (run : Run) : Type 0 where
+  pub channels : (c : ℕ) → c < 32 → ChannelFits (channelAt run c)
+  -- "things are held only for tasks and channels that the job has"
+  pub no-channel : (c : ℕ) → job .channels ≤ c → c < 32 → (channelAt run c .count ≡ 0) × (flagAt (run .marked) c ≡ false)
+  pub no-task : (t : ℕ) → job .tasks ≤ t → t < 16 → NothingHeld run t
+  -- "a barrier waits only at sources"
+  pub waits : (t : ℕ) → t < job .tasks → flagAt (run .waiting) t ≡ true → isSource job t ≡ true
+  pub totals : (t : ℕ) → t < job .tasks → TaskFits job run t
+
+-- ---- the test
+unfoldable pub channelFits : Channel → Bool
+channelFits ch = leb (ch .count) 8 && every (λ j. cargoFits (getD (ch .items) j barrier .cargo)) (ch .count)
+
+unfoldable pub placeFits : Channel → Bool → ℕ → ℕ → Bool
+placeFits ch mark c channels = channelFits ch && (ltb c channels || eqb (ch .count) 0 && not mark)
+
+unfoldable pub channelsFit : Run → ℕ → Bool
+channelsFit run channels = every (λ c. placeFits (channelAt run c) (flagAt (run .marked) c) c channels) 32
+
+-- with the limit 0 the totals are all zero
+unfoldable pub totalsFit : Totals → ℕ → Bool
+totalsFit x limit =
+    leb (x .count) limit && (sumFits (x .sum) (x .count) && (not (eqb (x .count) 0) || isZero (x .least) && isZero (x .greatest)))
+
+unfoldable pub limitOf : Job → ℕ → ℕ
+limitOf job t = cond (ltb t (job .tasks)) (cond (isSource job t) (natAbs (bOf job t)) 1048576) 0
+
+-- "held only for tasks .. that the job has", and "a barrier waits only at sources"
+abbrev pub flagsFit : Bool → Bool → Bool → Bool → Bool
+flagsFit task source stored waiting = (task || not stored) && (not waiting || task && source)
+
+unfoldable pub taskFits : Job → Run → ℕ → Bool
+taskFits job run t =
+    flagsFit (ltb t (job .tasks)) (isSource job t) (flagAt (run .stored) t) (flagAt (run .waiting) t)
+    && totalsFit (totalsAt (run .live) t) (limitOf job t)
+    && totalsFit (totalsAt (run .half) t) (limitOf job t)
+    && totalsFit (totalsAt (run .last) t) (limitOf job t)
+
+unfoldable pub tasksFit : Job → Run → Bool
+tasksFit job run = every (taskFits job run) 16
+
+unfoldable pub runFits : Job → Run → Bool
+runFits job run = channelsFit run (job .channels) && tasksFit job run

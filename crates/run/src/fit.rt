@@ -1,0 +1,135 @@
+// Whether a run fits a job (answer 16), for any run whatever.
+ghost use mathlib.Core.Path.{_≡_};
+ghost use Prim.Native.Nat.{_<_, _≤_};
+ghost use Rattle.job.specs.Jobs.{JobSized};
+ghost use Rattle.run.specs.Fit.{cargoFits, channelFits, placeFits, channelsFit, sumFits, totalsFit, limitOf, flagsFit, taskFits, tasksFit, runFits};
+use crate::Run;
+use channel::Cargo;
+use channel::Channel;
+use job::Job;
+use kinds::is_within;
+use tally::Totals;
+
+fn cargo_fits(cargo: Cargo) -> bool
+    ensures { λ r. ⌜ r ≡ cargoFits cargo ⌝ }
+{
+    match cargo {
+        Cargo::Barrier => true,
+        Cargo::Record(r) => (1 <= r.cylinder) & (r.cylinder <= 20),
+    }
+}
+
+// A channel that claims more than 8 items is not looked into.
+fn channel_fits(ch: Channel) -> bool
+    ensures { λ r. ⌜ r ≡ channelFits ch ⌝ }
+{
+    let n = ch.count;
+    if 8 < n {
+        return false;
+    }
+    let mut all = true;
+    let mut i: usize = 0;
+    while i < n {
+        let item = ch.items[i];
+        let cargo = item.cargo;
+        all = all & cargo_fits(cargo);
+        i += 1;
+    }
+    all
+}
+
+// Channel `c` fits, and where the job lacks it nothing is held for it.
+fn place_fits(ch: Channel, marked: bool, c: usize, channels: usize) -> bool
+    ensures { λ r. ⌜ r ≡ placeFits ch marked c channels ⌝ }
+{
+    let fits = channel_fits(ch);
+    fits & ((c < channels) | ((ch.count == 0) & !marked))
+}
+
+fn channels_fit(run: Run, channels: usize) -> bool
+    ensures { λ r. ⌜ r ≡ channelsFit run channels ⌝ }
+{
+    let mut all = true;
+    let mut c: usize = 0;
+    while c < 32 {
+        let ch = run.channels[c];
+        all = all & place_fits(ch, run.marked[c], c, channels);
+        c += 1;
+    }
+    all
+}
+
+// The sum of so many 32-bit values.
+fn sum_fits(sum: i64, count: u32) -> bool
+    requires { ⌜ count ≤ 1048576 ⌝ }
+    ensures { λ r. ⌜ r ≡ sumFits sum count ⌝ }
+{
+    let n = count as i64;
+    (0 - n * 2147483648 <= sum) & (sum <= n * 2147483647)
+}
+
+fn totals_fit(x: Totals, limit: u32) -> bool
+    requires { ⌜ limit ≤ 1048576 ⌝ }
+    ensures { λ r. ⌜ r ≡ totalsFit x limit ⌝ }
+{
+    if limit < x.count {
+        return false;
+    }
+    let empty = is_within(0, x.least, 0) & is_within(0, x.greatest, 0);
+    sum_fits(x.sum, x.count) & ((x.count != 0) | empty)
+}
+
+// The most that a task may have counted; nothing where the job lacks the task.
+fn limit_of(job: Job, t: usize) -> u32
+    requires { ⌜ (t < 16) × JobSized job ⌝ }
+    ensures { λ r. ⌜ r ≡ limitOf job t ⌝ }
+{
+    if job.tasks <= t {
+        return 0;
+    }
+    if job.kinds[t] == 0 {
+        return job.b[t] as u32;
+    }
+    1048576
+}
+
+fn flags_fit(task: bool, source: bool, stored: bool, waiting: bool) -> bool
+    ensures { λ r. ⌜ r ≡ flagsFit task source stored waiting ⌝ }
+{
+    (task | !stored) & (!waiting | (task & source))
+}
+
+fn task_fits(job: Job, run: Run, t: usize) -> bool
+    requires { ⌜ (t < 16) × JobSized job ⌝ }
+    ensures { λ r. ⌜ r ≡ taskFits job run t ⌝ }
+{
+    let limit = limit_of(job, t);
+    let live = run.live[t];
+    let half = run.half[t];
+    let last = run.last[t];
+    let source = job.kinds[t] == 0;
+    flags_fit(t < job.tasks, source, run.stored[t], run.waiting[t])
+        & totals_fit(live, limit)
+        & totals_fit(half, limit)
+        & totals_fit(last, limit)
+}
+
+fn tasks_fit(job: Job, run: Run) -> bool
+    requires { ⌜ JobSized job ⌝ }
+    ensures { λ r. ⌜ r ≡ tasksFit job run ⌝ }
+{
+    let mut all = true;
+    let mut t: usize = 0;
+    while t < 16 {
+        all = all & task_fits(job, run, t);
+        t += 1;
+    }
+    all
+}
+
+pub fn run_fits(job: Job, run: Run) -> bool
+    requires { ⌜ JobSized job ⌝ }
+    ensures { λ r. ⌜ r ≡ runFits job run ⌝ }
+{
+    channels_fit(run, job.channels) & tasks_fit(job, run)
+}

@@ -1,0 +1,14 @@
+-- The laws of one step.
+--   Places                loops that make each place of a list anew
+--   Cargos, Rooms, Lent   what the fit says of an item, of totals, of a lent record
+--   Sources               what the tests of the step rules say
+--   Fitting, Keeps        every step keeps a fitting run fitting (`stepped-fits`)
+--   Refused               a refused step gives the run as it came (`refused-same`)
+pub mod Places
+pub mod Cargos
+pub mod Rooms
+pub mod Sources
+pub mod Lent
+pub mod Fitting
+pub mod Keeps
+pub mod Refused

@@ -1,0 +1,59 @@
+-- `step::outputs::unmark` meets its contract.
+use borrow.Author.Needs.{needs}
+use native.Mathlib.Omega.{arith}
+use Prim.Native.Nat.{_≤_, _-_}
+use mathlib.Core.Path.{_≡_, refl, ap, ap₂, _∙_}
+use mathlib.Core.Bool.{false, not, _&&_}
+use lib.ListN.{getD}
+use Rattle.job.specs.Jobs.{isInput}
+use Rattle.step.specs.Outputs.{eachPlace, unmarked}
+use Rattle.step.proofs.Places.{place-more}
+use Rattle.step.proofs.outputs.unmark.Statement.{statement}
+use Rattle.step.proofs.outputs.unmark.Tie as tie
+
+abbrev Inv-loop : tie.InvT-loop
+Inv-loop job t n next₀ c₀ next c = (c ≤ n) × (next ≡ eachPlace false (λ k mark. mark && not (isInput job t k)) next₀ c)
+
+abbrev μ-loop : tie.MeasureT-loop
+μ-loop job t n next₀ c₀ next c = n - c
+
+loop-holds : tie.Need-loop-holds Inv-loop μ-loop
+unfolding eachPlace
+loop-holds c = search needs
+
+array-read-next : tie.Need-array-read-next Inv-loop μ-loop
+array-read-next c = omega (arith, c .before .before .pre .few-channels)
+
+is-input-requires : tie.Need-is-input-requires Inv-loop μ-loop
+is-input-requires c κs = omega (arith, c .before .before .pre .few-channels)
+
+array-write-next : tie.Need-array-write-next Inv-loop μ-loop
+array-write-next c = omega (arith, c .before .before .before .pre .few-channels)
+
+add-c : tie.Need-add-c Inv-loop μ-loop
+add-c c = search needs
+
+loop-less : tie.Need-loop-less Inv-loop μ-loop
+loop-less c = search needs
+
+loop-again : tie.Need-loop-again Inv-loop μ-loop
+loop-again c = (search needs, place-more false _ _ _ (c .before .before .loop .inv .1) (simp (c .is-input .ensures)))
+
+returns : tie.Need-returns Inv-loop μ-loop
+unfolding unmarked
+returns c = c .before .loop .inv .1 ∙ ap (eachPlace _ _ _) (omega arith)
+
+pub unmark-spec : {M : Type 1} → statement M
+unmark-spec =
+    tie.close
+    (tie.spec
+    Inv-loop
+    μ-loop
+    loop-holds
+    array-read-next
+    is-input-requires
+    array-write-next
+    add-c
+    loop-less
+    loop-again
+    returns)
