@@ -1,0 +1,3 @@
+-- A list of steps, and the drain.
+pub mod Lists
+pub mod Drains

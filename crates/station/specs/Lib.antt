@@ -1,0 +1,2 @@
+-- The entry points: any columns, any run, any numbers.
+pub mod Entries
