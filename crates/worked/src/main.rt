@@ -1,6 +1,5 @@
 // Document 01's worked station, step by step, and runs from elsewhere. What it prints stands in the file `stdout`, beside the paper's numbers.
 ghost use Prim.Native.Nat.{_<_};
-
 use channel::Cargo;
 use channel::Channel;
 use channel::Item;
@@ -80,9 +79,7 @@ fn one_step(run: Run, n: u16) -> Stepped {
     let to = [2i32, 2, 3, 4, 4];
     let cylinders = [1i32, 2, 3, 1, 4];
     let values = [7i32, -5, 40, -3, 9];
-    station::step(
-        run, &kinds, &a, &b, &from, &to, &cylinders, &values, n,
-    )
+    station::step(run, &kinds, &a, &b, &from, &to, &cylinders, &values, n)
 }
 
 fn listed(run: Run, numbers: &[u16]) -> Listed {
@@ -94,7 +91,15 @@ fn listed(run: Run, numbers: &[u16]) -> Listed {
     let cylinders = [1i32, 2, 3, 1, 4];
     let values = [7i32, -5, 40, -3, 9];
     station::steps(
-        &kinds, &a, &b, &from, &to, &cylinders, &values, run, numbers,
+        &kinds,
+        &a,
+        &b,
+        &from,
+        &to,
+        &cylinders,
+        &values,
+        run,
+        numbers,
     )
 }
 
@@ -106,9 +111,7 @@ fn drained(run: Run, limit: u32) -> Drained {
     let to = [2i32, 2, 3, 4, 4];
     let cylinders = [1i32, 2, 3, 1, 4];
     let values = [7i32, -5, 40, -3, 9];
-    station::drain(
-        &kinds, &a, &b, &from, &to, &cylinders, &values, run, limit,
-    )
+    station::drain(&kinds, &a, &b, &from, &to, &cylinders, &values, run, limit)
 }
 
 fn drain_and_say(run: Run, limit: u32) {
@@ -142,7 +145,30 @@ fn step_by_step(numbers: &[u16]) -> Run {
 
 fn worked() {
     let numbers = [
-        32u16, 64, 48, 32, 0, 0, 0, 33, 33, 49, 1, 1, 1, 0, 3, 3, 2, 2, 2, 2, 4, 4, 4, 4,
+        32u16,
+        64,
+        48,
+        32,
+        0,
+        0,
+        0,
+        33,
+        33,
+        49,
+        1,
+        1,
+        1,
+        0,
+        3,
+        3,
+        2,
+        2,
+        2,
+        2,
+        4,
+        4,
+        4,
+        4,
     ];
     let run = step_by_step(&numbers);
     let l = listed(station::fresh(), &numbers);

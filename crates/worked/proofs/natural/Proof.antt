@@ -9,7 +9,7 @@ returns : tie.Need-returns
 returns c = search needs
 
 cast-result : tie.Need-cast-result
-cast-result c = 
+cast-result c =
     let e = toZ-ofZ (c .before .fits .z) in
     simp e (not-below (c .before .args .z) (simp e at (c .if1 .left)), fits-natAbs tt (c .before .fits .z))
 

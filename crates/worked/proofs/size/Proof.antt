@@ -12,12 +12,12 @@ returns-2 : tie.Need-returns-2
 returns-2 c = search needs
 
 sub-result : tie.Need-sub-result
-sub-result c = 
+sub-result c =
     let e = toZ-ofZ (c .before .before .fits .z) in
     simp e (size-fits (c .before .before .args .z) (simp e at (c .before .if1 .left)) (simp e at (c .if2 .left)) .0)
 
 cast-result : tie.Need-cast-result
-cast-result c = 
+cast-result c =
     let e = toZ-ofZ (c .before .before .fits .z) in
     let f = size-fits (c .before .before .args .z) (simp e at (c .before .if1 .left)) (simp e at (c .if2 .left)) in
     simp (e, toZ-ofZ (f .0)) (f .1, fits-natAbs tt (f .0))
