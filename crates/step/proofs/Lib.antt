@@ -4,6 +4,7 @@
 --   Sources               what the tests of the step rules say
 --   Fitting, Keeps        every step keeps a fitting run fitting (`stepped-fits`)
 --   Refused               a refused step gives the run as it came (`refused-same`)
+--   Changes               a step changes only what the table says (`delivered-elsewhere`, `read-elsewhere`, `sent-elsewhere`)
 pub mod Places
 pub mod Cargos
 pub mod Rooms
@@ -12,3 +13,4 @@ pub mod Lent
 pub mod Fitting
 pub mod Keeps
 pub mod Refused
+pub mod Changes
