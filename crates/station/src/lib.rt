@@ -91,6 +91,7 @@ pub fn step(
 
 // A list of steps.
 pub fn steps(
+    run: Run,
     kinds: &[i32],
     a: &[i32],
     b: &[i32],
@@ -98,7 +99,6 @@ pub fn steps(
     to: &[i32],
     cylinders: &[i32],
     values: &[i32],
-    run: Run,
     numbers: &[u16],
 ) -> Listed
     ensures { λ r. ⌜ r ≡ stepsOn (columns (now (kinds .entry)) (now (a .entry)) (now (b .entry)) (now («from» .entry)) (now («to» .entry)) (now (cylinders .entry)) (now (values .entry))) run (now (numbers .entry)) ⌝ }
@@ -118,6 +118,7 @@ pub fn steps(
 
 // A drain with a limit.
 pub fn drain(
+    run: Run,
     kinds: &[i32],
     a: &[i32],
     b: &[i32],
@@ -125,7 +126,6 @@ pub fn drain(
     to: &[i32],
     cylinders: &[i32],
     values: &[i32],
-    run: Run,
     limit: u32,
 ) -> Drained
     ensures { λ r. ⌜ r ≡ drainOn (columns (now (kinds .entry)) (now (a .entry)) (now (b .entry)) (now («from» .entry)) (now («to» .entry)) (now (cylinders .entry)) (now (values .entry))) run limit ⌝ }

@@ -91,6 +91,7 @@ fn listed(run: Run, numbers: &[u16]) -> Listed {
     let cylinders = [1i32, 2, 3, 1, 4];
     let values = [7i32, -5, 40, -3, 9];
     station::steps(
+        run,
         &kinds,
         &a,
         &b,
@@ -98,7 +99,6 @@ fn listed(run: Run, numbers: &[u16]) -> Listed {
         &to,
         &cylinders,
         &values,
-        run,
         numbers,
     )
 }
@@ -111,7 +111,7 @@ fn drained(run: Run, limit: u32) -> Drained {
     let to = [2i32, 2, 3, 4, 4];
     let cylinders = [1i32, 2, 3, 1, 4];
     let values = [7i32, -5, 40, -3, 9];
-    station::drain(&kinds, &a, &b, &from, &to, &cylinders, &values, run, limit)
+    station::drain(run, &kinds, &a, &b, &from, &to, &cylinders, &values, limit)
 }
 
 fn drain_and_say(run: Run, limit: u32) {
@@ -143,8 +143,9 @@ fn step_by_step(numbers: &[u16]) -> Run {
     run
 }
 
-fn worked() {
-    let numbers = [
+// Document 01's 24 steps.
+fn paper_steps() -> [u16; 24] {
+    [
         32u16,
         64,
         48,
@@ -169,7 +170,11 @@ fn worked() {
         4,
         4,
         4,
-    ];
+    ]
+}
+
+fn worked() {
+    let numbers = paper_steps();
     let run = step_by_step(&numbers);
     let l = listed(station::fresh(), &numbers);
     say(b"list");
@@ -212,6 +217,10 @@ fn channels_from_elsewhere() {
     let ch = with_item(21, 0);
     run.channels[0] = ch;
     fit_of(b"cylinder-21", run);
+    let mut none = station::fresh();
+    let zero = with_item(0, 0);
+    none.channels[0] = zero;
+    fit_of(b"cylinder-0", none);
     let mut nine = station::fresh();
     let mut long = Channel::empty();
     long.count = 9;
@@ -265,6 +274,25 @@ fn tasks_from_elsewhere() {
     fit_of(b"least-of-none", least);
 }
 
+fn totals_at_2(name: &[u8], x: Totals) {
+    let mut run = station::fresh();
+    run.live[2] = x;
+    fit_of(name, run);
+}
+
+// The greatest count fits, one more does not; nor does a greatest value of nothing.
+fn totals_from_elsewhere() {
+    let mut most = Totals::none();
+    most.count = 1048576;
+    totals_at_2(b"count-1048576", most);
+    let mut many = Totals::none();
+    many.count = 1048577;
+    totals_at_2(b"count-1048577", many);
+    let mut high = Totals::none();
+    high.greatest = 1;
+    totals_at_2(b"greatest-of-none", high);
+}
+
 // Runs that fit, though no list of steps leads to them: a stray barrier, and a snapshot that every task has stored already.
 fn strays() {
     let mut stray = station::fresh();
@@ -283,5 +311,6 @@ fn main() {
     worked();
     channels_from_elsewhere();
     tasks_from_elsewhere();
+    totals_from_elsewhere();
     strays();
 }
