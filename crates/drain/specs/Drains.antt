@@ -9,7 +9,7 @@ use lib.Dec.{eqb, ltb}
 use lib.IntN.{ℤ, natAbs}
 use Rattle.job.specs.declared.Job.{Job}
 use Rattle.job.specs.Tests.{some}
-use Rattle.job.specs.Jobs.{bOf, isSource}
+use Rattle.job.specs.Jobs.{kindOf, bOf}
 use Rattle.run.specs.declared.Run.{Run}
 use Rattle.run.specs.Fit.{channelAt, flagAt}
 use Rattle.step.specs.Step.{stepped, offsetOf}
@@ -17,8 +17,11 @@ use Rattle.drain.specs.Lists.{isDone}
 use Rattle.drain.specs.declared.Drained.{Drained}
 
 -- ---- what is left: "parts read out, channels empty, no barrier waiting, no snapshot under way"
+abbrev pub leftBy : ℕ → ℤ → ℕ → Bool → Bool
+leftBy kind b received waits = eqb kind 0 && ltb received (natAbs b) || waits
+
 abbrev pub taskLeft : Job → Run → ℕ → Bool
-taskLeft job run t = isSource job t && ltb (offsetOf run t) (natAbs (bOf job t)) || flagAt (run .waiting) t
+taskLeft job run t = leftBy (kindOf job t) (bOf job t) (offsetOf run t) (flagAt (run .waiting) t)
 
 unfoldable pub tasksLeft : Job → Run → Bool
 tasksLeft job run = some (taskLeft job run) (job .tasks)

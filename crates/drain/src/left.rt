@@ -2,19 +2,20 @@
 ghost use mathlib.Core.Path.{_≡_};
 ghost use Prim.Native.Nat.{_<_};
 ghost use Rattle.job.specs.Jobs.{JobSized};
-ghost use Rattle.drain.specs.Drains.{taskLeft, tasksLeft, channelsLeft, someLeft};
+ghost use mathlib.Core.Bool.{true};
+ghost use lib.IntN.{pos};
+ghost use lib.Signed.{leZ};
+ghost use Rattle.drain.specs.Drains.{leftBy, tasksLeft, channelsLeft, someLeft};
 use job::Job;
 use run::Run;
 
 // A record to be read, or a barrier that waits.
-fn task_left(job: Job, run: Run, t: usize) -> bool
-    requires { ⌜ (t < job .tasks) × JobSized job ⌝ }
-    ensures { λ r. ⌜ r ≡ taskLeft job run t ⌝ }
+fn task_left(kind: u8, b: i32, received: u32, waits: bool) -> bool
+    requires { ⌜ (kind ≡ 0 → leZ (pos 0) b ≡ true) ⌝ }
+    ensures { λ r. ⌜ r ≡ leftBy kind b received waits ⌝ }
 {
-    let x = run.live[t];
-    let waits = run.waiting[t];
-    if job.kinds[t] == 0 {
-        return (x.count < job.b[t] as u32) | waits;
+    if kind == 0 {
+        return (received < b as u32) | waits;
     }
     waits
 }
@@ -27,7 +28,8 @@ fn tasks_left(job: Job, run: Run) -> bool
     let mut found = false;
     let mut t: usize = 0;
     while t < n {
-        found = found | task_left(job, run, t);
+        let x = run.live[t];
+        found = found | task_left(job.kinds[t], job.b[t], x.count, run.waiting[t]);
         t += 1;
     }
     found

@@ -7,10 +7,14 @@ ghost use Rattle.job.specs.Fits.{JobFits};
 ghost use Rattle.run.specs.Fit.{Fits};
 ghost use Rattle.step.specs.Step.{stepped};
 ghost use Rattle.drain.specs.Lists.{isDone, counted, listedTo};
-ghost use Rattle.drain.specs.Drains.{possible, drainedOf};
+ghost use Rattle.drain.specs.Drains.{drainedOf};
+ghost use Rattle.drain.specs.InPlace.{lastAnswer};
 
 mod left;
+mod ready;
+mod sending;
 
+use channel::Cargo;
 use job::Job;
 use run::Run;
 
@@ -69,54 +73,125 @@ pub fn steps(job: Job, cylinders: &[i32], values: &[i32], run: Run, numbers: &[u
     l
 }
 
-// Whether the step would be done.
-fn is_possible(job: Job, cylinders: &[i32], values: &[i32], run: Run, n: u16) -> bool
-    requires { ⌜ JobFits job (length (now cylinders)) × Fits job run × RecordsFit (now cylinders) (now values) ⌝ }
-    ensures { λ r. ⌜ r ≡ possible job (now (cylinders .entry)) (now (values .entry)) run n ⌝ }
+// The answer of a drain that ends: "Nothing left comes before 18, 18 before 19."
+fn last_answer(left: bool, spent: bool) -> u8
+    ensures { λ r. ⌜ r ≡ lastAnswer left spent ⌝ }
 {
-    let s = step::step(job, cylinders, values, run, n);
-    is_done(s.answer)
+    if left {
+        if spent {
+            return 18;
+        }
+        return 19;
+    }
+    0
 }
 
-// The lowest-numbered possible step, again and again, while something is left and the limit is not spent.
+// The lowest-numbered possible step, again and again, until none is possible or the limit is spent. One function, since a run that goes
+// through a call is copied: reads and deliveries of records are done in place; barriers, which are rare, go through the plain step.
 pub fn drain(job: Job, cylinders: &[i32], values: &[i32], run: Run, limit: u32) -> Drained
     requires { ⌜ JobFits job (length (now cylinders)) × Fits job run × RecordsFit (now cylinders) (now values) ⌝ }
     ensures { λ r. ⌜ r ≡ drainedOf job (now (cylinders .entry)) (now (values .entry)) limit 0 run ⌝ }
 {
+    let channels = job.channels;
+    let tasks = job.tasks;
     let mut r = run;
     let mut steps: u32 = 0;
-    while left::some_left(job, r) {
-        if steps == limit {
-            return Drained {
-                run: r,
-                answer: 18,
-                steps,
-            };
+    loop {
+        // which tasks have a full output
+        let mut full = [false; 16];
+        let mut k: usize = 0;
+        while k < channels {
+            let f = ready::task(job.from[k]);
+            let ch = r.channels[k];
+            full[f] = full[f] | (8 <= ch.count);
+            k += 1;
         }
         let mut i: u16 = 0;
         let n = loop {
             if i == 64 {
                 break 64;
             }
-            if is_possible(job, cylinders, values, r, i) {
+            let mut hit = false;
+            if i < 32 {
+                let c = i as usize;
+                let ch = r.channels[c];
+                let items = ch.items;
+                let item = items[0];
+                let head = item.cargo;
+                let t = ready::task(job.to[c]) % 16;
+                let totals = r.live[t];
+                hit = ready::delivers(
+                    &job.to,
+                    &r.marked,
+                    channels,
+                    c,
+                    ch.count,
+                    head,
+                    full[t],
+                    totals.count,
+                );
+            } else {
+                let t = ready::source_of(i);
+                let totals = r.live[t];
+                hit = ready::acts(
+                    i,
+                    t < tasks,
+                    job.kinds[t],
+                    job.b[t],
+                    totals.count,
+                    r.waiting[t],
+                    full[t],
+                );
+            }
+            if hit {
                 break i;
             }
             i += 1;
         };
-        if n == 64 {
+        if (n == 64) | (steps == limit) {
+            let left = left::some_left(job, r);
+            let answer = last_answer(left, steps == limit);
             return Drained {
                 run: r,
-                answer: 19,
+                answer,
                 steps,
             };
         }
-        let s = step::step(job, cylinders, values, r, n);
-        r = s.run;
+        let t = sending::task_of(&job.to, n);
+        let c = sending::channel_of(n);
+        let totals = r.live[t];
+        let ch = r.channels[c];
+        let items = ch.items;
+        let item = items[0];
+        let head = item.cargo;
+        let cargo = sending::brought(cylinders, values, n, head, job.a[t], totals.count);
+        match cargo {
+            Cargo::Barrier => {
+                let s = step::step(job, cylinders, values, r, n);
+                r = s.run;
+            }
+            Cargo::Record(got) => {
+                let now = totals.with(got.value);
+                r.live[t] = now;
+                let rest = sending::left_on(n, ch);
+                r.channels[c] = rest;
+                let outputs = sending::outputs_of(&job.from, channels, t);
+                let kind = job.kinds[t];
+                let a = job.a[t];
+                let b = job.b[t];
+                let mut place: u32 = 0;
+                let mut j: usize = 0;
+                while j < channels {
+                    if ready::task(job.from[j]) == t {
+                        let out = r.channels[j];
+                        let next = sending::carry(kind, a, b, place, outputs, got, out);
+                        r.channels[j] = next;
+                        place += 1;
+                    }
+                    j += 1;
+                }
+            }
+        }
         steps += 1;
-    }
-    Drained {
-        run: r,
-        answer: 0,
-        steps,
     }
 }

@@ -1,0 +1,84 @@
+-- What the drain's own text computes, over plain variables: the search's test is `possible` (`delivery-hit`, `source-hit`), and its element
+-- stores are the record taken in (`stores-are`).
+use mathlib.Core.Path.{_≡_, refl, sym, ap, ap₂, _∙_}
+use mathlib.Core.Bool.{Bool, true, false, cond}
+use mathlib.Core.List.{List}
+use Prim.Native.Nat.{ℕ, _%_, _≤_, _<_}
+use native.Mathlib.Nat.{mod-eq-of-lt}
+use native.Mathlib.Omega.{arith}
+use lib.Dec.{ltb, leb}
+use lib.IntN.{ℤ}
+use lib.ListN.{getD, set}
+use borrow.Author.Tests.{leb-false, ltb-true}
+use Rattle.tally.specs.declared.Record.{Record}
+use Rattle.tally.specs.declared.Totals.{Totals}
+use Rattle.tally.specs.Totals.{withValue}
+use Rattle.channel.specs.declared.Cargo.{Cargo}
+use Rattle.channel.specs.declared.Channel.{Channel}
+use Rattle.job.specs.declared.Job.{Job}
+use Rattle.job.specs.Jobs.{JobSized, kindOf, bOf, toOf}
+use Rattle.run.specs.declared.Run.{Run}
+use Rattle.run.specs.Runs.{withChannels, withLive}
+use Rattle.run.specs.Fit.{channelAt, totalsAt, flagAt}
+use Rattle.step.specs.Outputs.{someFull, putAll}
+use Rattle.step.specs.Algorithm.{takenIn}
+use Rattle.drain.specs.Drains.{possible}
+use Rattle.drain.specs.Ready.{deliversBy, sourceOf, actsBy, channelBy}
+use Rattle.drain.specs.InPlace.{broughtBy, leftOn, carriedBy}
+use Rattle.drain.proofs.Possible.{headOf, delivery-ready, source-ready}
+use Rattle.drain.proofs.InPlace.{putTo}
+
+pub channel-small : (n : ℕ) → channelBy n < 32
+channel-small n = go (ltb n 32) refl
+  where
+    go : (b : Bool) → ltb n 32 ≡ b → cond b n 0 < 32
+    go true e = ltb-true n 32 e
+    go false e = omega arith
+
+module _ (job : Job) (cs vs : List ℤ) (run : Run) (full : List Bool)
+    (noted : (u : ℕ) → getD full u false ≡ someFull job (run .channels) u) (n : ℕ) where
+  abbrev pub asked : ℕ → Bool
+  asked t =
+      deliversBy (job .to) (run .marked) (job .channels) n (channelAt run n .count) (headOf (channelAt run n)) (getD full (t % 16) false)
+      (totalsAt (run .live) (t % 16) .count)
+
+  pub delivery-hit : (t : ℕ) → JobSized job → n < 32 → channelAt run n .count ≤ 8 → t ≡ toOf job n → asked t ≡ possible job cs vs run n
+  unfolding deliversBy
+  delivery-hit t S l room e = go (leb (job .channels) n) refl
+    where
+      go : (b : Bool) → leb (job .channels) n ≡ b → asked t ≡ possible job cs vs run n
+      go true p = simp p (sym (simp p at (delivery-ready job run cs vs n l room)))
+      go false p =
+          let small = S .to-task n (leb-false (job .channels) n p) in
+          let u : t % 16 ≡ toOf job n = mod-eq-of-lt (omega (arith, small, S .few-tasks, e)) ∙ e in
+          ap₂ (λ f x. deliversBy (job .to) (run .marked) (job .channels) n (channelAt run n .count) (headOf (channelAt run n)) f x)
+          (noted (t % 16) ∙ ap (someFull job (run .channels)) u) (ap (λ k. totalsAt (run .live) k .count) u)
+          ∙ sym (delivery-ready job run cs vs n l room)
+
+  pub source-hit : (t : ℕ) (b : ℤ) → 32 ≤ n → n < 64 → t ≡ sourceOf n → b ≡ bOf job t
+      → actsBy n (ltb t (job .tasks)) (kindOf job t) b (totalsAt (run .live) t .count) (flagAt (run .waiting) t) (getD full t false)
+      ≡ possible job cs vs run n
+  source-hit t b low high e q =
+      ap₂ (λ x f. actsBy n (ltb t (job .tasks)) (kindOf job t) x (totalsAt (run .live) t .count) (flagAt (run .waiting) t) f) q (noted t)
+      ∙ ap (λ k. actsBy n (ltb k (job .tasks)) (kindOf job k) (bOf job k) (totalsAt (run .live) k .count) (flagAt (run .waiting) k)
+      (someFull job (run .channels) k)) e
+      ∙ sym (source-ready job run cs vs n low high)
+
+pub brought-same : (cs vs : List ℤ) (n : ℕ) (head head′ : Cargo) (a a′ : ℤ) (offset offset′ : ℕ) → head ≡ head′ → a ≡ a′ → offset ≡ offset′
+    → broughtBy cs vs n head a offset ≡ broughtBy cs vs n head′ a′ offset′
+brought-same cs vs n head head′ a a′ offset offset′ p q r = cc
+
+-- the stores of a read or a delivery, with what goes on the outputs
+pub stores-are : (job : Job) (run : Run) (n t c : ℕ) (got : Record) (now : Totals) (rest : Channel)
+    → now ≡ withValue (totalsAt (run .live) t) (got .value) → rest ≡ leftOn n (channelAt run c)
+    → withChannels (putTo job t got (set (run .channels) c rest) (job .channels)) (withLive (set (run .live) t now) run)
+    ≡ takenIn job (withChannels (set (run .channels) c (leftOn n (channelAt run c))) run) t got
+unfolding takenIn putAll
+stores-are job run n t c got now rest e q =
+    let held : Channel → List Channel = λ y. putTo job t got (set (run .channels) c y) (job .channels) in
+    ap₂ (λ (x : Totals) (y : Channel). withChannels (held y) (withLive (set (run .live) t x) run)) e q
+
+pub carry-same : (kind : ℕ) (a a′ b b′ : ℤ) (place place′ outputs outputs′ : ℕ) (got : Record) (ch : Channel)
+    → a ≡ a′ → b ≡ b′ → place ≡ place′ → outputs ≡ outputs′
+    → carriedBy kind a b place outputs got ch ≡ carriedBy kind a′ b′ place′ outputs′ got ch
+carry-same kind a a′ b b′ place place′ outputs outputs′ got ch p q r s = cc

@@ -1,0 +1,13 @@
+-- `drain::sending::channel_of` meets its contract.
+use borrow.Author.Tests.{lt-ltb, le-ltb}
+use Rattle.drain.proofs.sending.channel_of.Statement.{statement}
+use Rattle.drain.proofs.sending.channel_of.Tie as tie
+
+returns : tie.Need-returns
+returns c = simp (lt-ltb _ _ (c .if1 .taken))
+
+returns-2 : tie.Need-returns-2
+returns-2 c = simp (le-ltb _ _ (c .if1 .left))
+
+pub channel-of-spec : {M : Type 1} → statement M
+channel-of-spec = tie.close (tie.spec returns returns-2)
