@@ -2,6 +2,8 @@
 --   Outputs     a task's outputs and inputs: full, marked, and what is put on every output
 --   Algorithm   Algorithm 1 of source document 001: a barrier received, a record received, with the listing's line numbers
 --   Step        document 01's step rules, by the step's number
+--   Handlers    the refusals and Algorithm 1's handlers as relations, for the promises
 pub mod Outputs
 pub mod Algorithm
 pub mod Step
+pub mod Handlers

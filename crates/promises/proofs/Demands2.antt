@@ -1,0 +1,404 @@
+-- 7. DEMAND 2 (`demand-2`): a step that the rules do not refuse does what Algorithm 1's handlers do on the task's own channels.
+use mathlib.Core.Path.{_≡_, refl, sym, ap, subst, _∙_}
+use mathlib.Core.Bool.{Bool, true, false, cond, not, _&&_, _||_, true≢false}
+use mathlib.Core.List.{List, [], _∷_, _++_, map, append-nil}
+use Prim.Native.Nat.{ℕ, _+_, _-_, _<_, _≤_}
+use native.Mathlib.Omega.{arith}
+use borrow.Author.Tests.{eqb-true, eqb-false, eq-eqb, ne-eqb, le-ltb, ltb-true, ltb-false, lt-leb}
+use lib.Dec.{eqb, ltb, leb}
+use lib.IntN.{ℤ, natAbs}
+use lib.ListN.{length, getD, set, drop, length-set, length-drop, length-append}
+use lib.Seq.{getD-set-same, getD-set-other}
+use Rattle.tally.specs.declared.Record.{Record}
+use Rattle.tally.specs.Totals.{noTotals, withValue}
+use Rattle.kinds.specs.declared.Sending.{Sending}
+use Rattle.kinds.specs.declared.Sending.the-variants.{Nothing, One}
+use Rattle.channel.specs.declared.Cargo.{Cargo}
+use Rattle.channel.specs.declared.Cargo.the-variants.{Barrier, Record as Recorded}
+use Rattle.channel.specs.declared.Channel.{Channel}
+use Rattle.channel.specs.declared.Item.{Item}
+use Rattle.channel.specs.Channels.{held, barrier, withoutHead}
+use Rattle.channel.proofs.Queues.{added-holds}
+use Rattle.job.specs.declared.Job.{Job}
+use Rattle.job.specs.Columns.{Columns}
+use Rattle.job.specs.Jobs.{jobOf, bOf, toOf, fromOf, isSource, isInput, isOutput, placeOf}
+use Rattle.job.specs.Fits.{JobFits}
+use Rattle.job.specs.Graph.{asList, sentBy, sentOver, overChannel}
+use Rattle.job.proofs.Bools.{both-true}
+use Rattle.job.proofs.Tests.{every-all, all-every}
+use Rattle.run.specs.declared.Run.{Run}
+use Rattle.run.specs.Runs.{noChannel, withChannels, withMarked, withWaiting, withLive, withHalf}
+use Rattle.run.specs.Fit.{Fits, channelAt, totalsAt, flagAt}
+use Rattle.run.proofs.Clauses.{and-of}
+use Rattle.step.specs.declared.Stepped.{Stepped}
+use Rattle.step.specs.Outputs.{putSent, put, carried, putOn, putAll, someFull, allMarked, allStored, unmarked, sourcesWait}
+use Rattle.step.specs.Algorithm.{answered, sealed, completed, storedBy, barrierReceived, takenIn, recordReceived}
+use Rattle.step.specs.Step.{withCargo, offsetOf, nextRecord, delivered, sourceRead, barrierSent, begun, cutOff, stepped}
+use Rattle.step.proofs.Places.{place-at, place-past}
+use Rattle.station.specs.Entries.{entry, stepOn}
+use Rattle.station.proofs.Admission.{Admitted, admitted}
+use Rattle.step.specs.Handlers.{Sized, Head, Open, Full, Completes, Source, HeadTaken, Sent, Received, Marked, Passed, Sealed}
+use Rattle.promises.specs.Demands.{Demand2}
+use Rattle.promises.proofs.Conditions.{fails, not-full, is-completing, not-completing, is-source, head-count, head-is}
+use Rattle.promises.proofs.Conditions.{taken-rest, at-head, at-delivery, at-read, at-send, at-begin, at-cut}
+use Rattle.promises.proofs.Demands1.{step-open}
+
+-- ---- what is put on the outputs
+abbrev asItem : Record → Item
+asItem r = record { cargo = Recorded r }
+
+abbrev itemsFor : Job → Cargo → ℕ → List Item
+itemsFor job Barrier d = barrier ∷ []
+itemsFor job (Recorded r) d = map asItem (overChannel job d r)
+
+-- 32 channels of 8 places
+record Queues (l : List Channel) : Type 0 where
+  pub long : length l ≡ 32
+  pub places : (c : ℕ) → c < 32 → length (getD l c noChannel .items) ≡ 8
+
+module _ (job : Job) (few : job .channels ≤ 32) (t : ℕ) (l : List Channel) (Q : Queues l) where
+  sent-holds : (ch : Channel) → length (ch .items) ≡ 8 → ch .count < 8 → (s : Sending)
+      → held (putSent ch s) ≡ held ch ++ map asItem (asList s)
+  sent-holds ch wide h Nothing = sym (append-nil (held ch))
+  sent-holds ch wide h (One r) = added-holds ch wide (record { cargo = Recorded r }) h
+
+  carried-holds : (cargo : Cargo) (d : ℕ) (ch : Channel) → length (ch .items) ≡ 8 → ch .count < 8 → fromOf job d ≡ t
+      → held (carried job t (placeOf job t d) (placeOf job t (job .channels)) cargo ch) ≡ held ch ++ itemsFor job cargo d
+  unfolding sentOver
+  carried-holds Barrier d ch wide h e = added-holds ch wide (record { cargo = Barrier }) h
+  carried-holds (Recorded r) d ch wide h e =
+      sent-holds ch wide h (sentBy job t (placeOf job t d) (placeOf job t (job .channels)) r)
+      ∙ ap (λ u. held ch ++ map asItem (asList (sentBy job u (placeOf job u d) (placeOf job u (job .channels)) r)))
+      (sym e)
+
+  on-output : (cargo : Cargo) (d : ℕ) (ch : Channel) (b : Bool) → isOutput job t d ≡ b
+      → putOn job t cargo d ch ≡ cond b (carried job t (placeOf job t d) (placeOf job t (job .channels)) cargo ch) ch
+  unfolding putOn
+  on-output cargo d ch b e = ap (λ b. cond b (carried job t (placeOf job t d) (placeOf job t (job .channels)) cargo ch) ch) e
+
+  module _ (cargo : Cargo) where
+    below : (d : ℕ) → d < job .channels → getD (putAll job t cargo l) d noChannel ≡ putOn job t cargo d (getD l d noChannel)
+    unfolding putAll
+    below d ld = place-at noChannel (putOn job t cargo) l (job .channels) d ld (omega (arith, Q .long))
+
+    beyond : (d : ℕ) → job .channels ≤ d → getD (putAll job t cargo l) d noChannel ≡ getD l d noChannel
+    unfolding putAll
+    beyond d ld = place-past noChannel (putOn job t cargo) l (job .channels) d ld
+
+    outputs-hold : (d : ℕ) → d < job .channels → fromOf job d ≡ t → getD l d noChannel .count < 8
+        → held (getD (putAll job t cargo l) d noChannel) ≡ held (getD l d noChannel) ++ itemsFor job cargo d
+    outputs-hold d ld e room =
+        ap held (below d ld ∙ on-output cargo d (getD l d noChannel) true (eq-eqb (fromOf job d) t e))
+        ∙ carried-holds cargo d (getD l d noChannel) (Q .places d (omega arith)) room e
+
+    others-same : (d : ℕ) → (d < job .channels → fromOf job d ≡ t → ⊥) → getD (putAll job t cargo l) d noChannel ≡ getD l d noChannel
+    others-same d out = go (ltb d (job .channels)) refl
+      where
+        go : (b : Bool) → ltb d (job .channels) ≡ b → getD (putAll job t cargo l) d noChannel ≡ getD l d noChannel
+        go true e =
+            let ld = ltb-true d (job .channels) e in
+            below d ld ∙ on-output cargo d (getD l d noChannel) false (fails (isOutput job t d) (eqb-true (fromOf job d) t) (out ld))
+        go false e = beyond d (ltb-false d (job .channels) e)
+
+module _ (job : Job) (few : job .channels ≤ 32) where
+  -- what handlers find: 32 channels of 8 places, arrays for 16 tasks, and room on the outputs of task t
+  record Ready (x : Run) (t : ℕ) : Type 0 where
+    pub queues : Queues (x .channels)
+    pub live : t < length (x .live)
+    pub half : t < length (x .half)
+    pub stored : t < length (x .stored)
+    pub room : (d : ℕ) → d < job .channels → fromOf job d ≡ t → channelAt x d .count < 8
+
+  sent : (cargo : Cargo) (x : Run) (t : ℕ) → Ready x t → (y : Run) → y .channels ≡ putAll job t cargo (x .channels)
+      → Sent job x y t (itemsFor job cargo)
+  sent cargo x t R y e = record {
+    outputs = λ d ld f.
+        ap (λ l. held (getD l d noChannel)) e ∙ outputs-hold job few t (x .channels) (R .queues) cargo d ld f (R .room d ld f);
+    others = λ d out. ap (λ l. getD l d noChannel) e ∙ others-same job few t (x .channels) (R .queues) cargo d out;
+  }
+
+  -- Algorithm 1, 18 to 21
+  received : (x : Run) (t : ℕ) (r : Record) → Ready x t → Received job x (takenIn job x t r) t r
+  unfolding takenIn
+  received x t r R = record {
+    state = getD-set-same (x .live) t _ noTotals (R .live);
+    states = λ u ne. getD-set-other (x .live) t u _ noTotals ne;
+    sent = sent (Recorded r) x t R _ refl;
+    rest = refl;
+  }
+
+  -- 10 to 15, with the marks cleared
+  passed : (x : Run) (t : ℕ) (ms : List Bool) → Ready x t
+      → ((d : ℕ) → d < job .channels → toOf job d ≡ t → flagAt ms d ≡ false)
+      → ((d : ℕ) → (d < job .channels → toOf job d ≡ t → ⊥) → flagAt ms d ≡ flagAt (x .marked) d)
+      → Passed job x (storedBy job (withMarked ms x) t) t
+  unfolding storedBy
+  passed x t ms R clear same = record {
+    cleared = clear;
+    marks = same;
+    state = (getD-set-same (x .half) t _ noTotals (R .half), getD-set-same (x .stored) t true false (R .stored));
+    states = λ u ne. (getD-set-other (x .half) t u _ noTotals ne, getD-set-other (x .stored) t u true false ne);
+    sent = sent Barrier x t R _ refl;
+    rest = refl;
+  }
+
+  sealed-by : (y : Run) → Sealed job y (completed job y)
+  unfolding completed allStored
+  sealed-by y = record {
+    all = λ a. ap (λ b. cond b (answered 20 (sealed y)) (answered 0 y))
+        (and-of (y .«under_way») (allStored job (y .stored)) (a .0) (all-every (flagAt (y .stored)) (job .tasks) (a .1)));
+    not-all = λ n. ap (λ b. cond b (answered 20 (sealed y)) (answered 0 y))
+        (fails (y .«under_way» && allStored job (y .stored))
+        (λ e.
+        let p = both-true (y .«under_way») (allStored job (y .stored)) e in
+        (p .0, every-all (flagAt (y .stored)) (job .tasks) (p .1))) n);
+  }
+
+-- ---- a channel without its head
+module _ (ch : Channel) (p : 0 < ch .count) (h : ch .count ≤ 8) (wide : length (ch .items) ≡ 8) where
+  without-wide : length (withoutHead ch .channel .items) ≡ 8
+  unfolding withoutHead
+  without-wide =
+      simp (le-ltb 8 (ch .count) h, ne-eqb (ch .count) 0 (λ e. omega arith), length-append, length-drop) (omega arith)
+
+  without-count : withoutHead ch .channel .count ≤ ch .count
+  unfolding withoutHead
+  without-count = simp (le-ltb 8 (ch .count) h, ne-eqb (ch .count) 0 (λ e. omega arith)) (omega arith)
+
+module _ (job : Job) (c v : List ℤ) (J : JobFits job (length c)) (run : Run) (F : Fits job run) (S : Sized run) where
+  few : job .channels ≤ 32
+  few = J .sends .sized .few-channels
+
+  tasks-few : (t : ℕ) → t < job .tasks → t < 16
+  tasks-few t l = omega (arith, J .sends .sized .few-tasks)
+
+  -- an output of a task without a full one has room
+  has-room : (t : ℕ) → (Full job run t → ⊥) → (d : ℕ) → d < job .channels → fromOf job d ≡ t → channelAt run d .count < 8
+  has-room t n d l e =
+      let ne : channelAt run d .count ≡ 8 → ⊥ = λ q. n (d, l, e, q) in omega (arith, F .channels d (omega (arith, few)) .room)
+
+  ready : (t : ℕ) → t < job .tasks → (Full job run t → ⊥) → Ready job few run t
+  ready t l n = record {
+    queues = record { long = S .channels; places = S .items };
+    live = omega (arith, tasks-few t l, S .live);
+    half = omega (arith, tasks-few t l, S .half);
+    stored = omega (arith, tasks-few t l, S .stored);
+    room = has-room t n;
+  }
+
+  module _ (n : ℕ) (o : Open job run n) (cargo : Cargo) (hd : Head run n cargo) where
+    ln : n < 32
+    ln = omega (arith, few, o .0)
+
+    abbrev ch : Channel
+    ch = channelAt run n
+
+    abbrev x : Run
+    x = withChannels (set (run .channels) n (withoutHead ch .channel)) run
+
+    more : 0 < ch .count
+    more = head-count job (J .sends .sized) run F S n o cargo hd
+
+    at-n : channelAt x n ≡ withoutHead ch .channel
+    at-n = getD-set-same (run .channels) n (withoutHead ch .channel) noChannel (omega (arith, S .channels))
+
+    at-other : (d : ℕ) → (d ≡ n → ⊥) → channelAt x d ≡ channelAt run d
+    at-other d ne = getD-set-other (run .channels) n d (withoutHead ch .channel) noChannel ne
+
+    taken : HeadTaken job run x n cargo
+    taken = record {
+      head = taken-rest job (J .sends .sized) run F S n o more
+          ∙ ap (λ k. record { cargo = k } ∷ held (withoutHead ch .channel)) (head-is job (J .sends .sized) run F S n o cargo hd)
+          ∙ ap (λ q. record { cargo = cargo } ∷ held q) (sym at-n);
+      others = at-other;
+      rest = refl;
+    }
+
+    x-places : (d : ℕ) (b : Bool) → eqb d n ≡ b → d < 32 → length (channelAt x d .items) ≡ 8
+    x-places d true e l =
+        ap (λ k. length (channelAt x k .items)) (eqb-true d n e) ∙ ap (λ (q : Channel). length (q .items)) at-n
+        ∙ without-wide ch more (F .channels n ln .room) (S .items n ln)
+    x-places d false e l = ap (λ (q : Channel). length (q .items)) (at-other d (eqb-false d n e)) ∙ S .items d l
+
+    x-count : (d : ℕ) (b : Bool) → eqb d n ≡ b → channelAt x d .count ≤ channelAt run d .count
+    x-count d true e =
+        let s = eqb-true d n e in
+        omega (
+          arith,
+          ap (λ k. channelAt x k .count) s,
+          ap (λ k. channelAt run k .count) s,
+          ap (λ (q : Channel). q .count) at-n,
+          without-count ch more (F .channels n ln .room) (S .items n ln),
+        )
+    x-count d false e = omega (arith, ap (λ (q : Channel). q .count) (at-other d (eqb-false d n e)))
+
+    to : toOf job n < job .tasks
+    to = J .sends .sized .to-task n (o .0)
+
+    x-ready : (Full job run (toOf job n) → ⊥) → Ready job few x (toOf job n)
+    x-ready f =
+        let R = ready (toOf job n) to f in
+        record {
+          queues = record { long = length-set (run .channels) n _ ∙ S .channels; places = λ d l. x-places d (eqb d n) refl l };
+          live = R .live;
+          half = R .half;
+          stored = R .stored;
+          room = λ d l e. omega (arith, R .room d l e, x-count d (eqb d n) refl);
+        }
+
+    at-cargo : stepped job c v run n ≡ withCargo job run n cargo (withoutHead ch .channel)
+    at-cargo = at-delivery job c v run n ln ∙ at-head job (J .sends .sized) run F S n o cargo hd
+
+  -- a record, lines 18 to 21
+  record-done : (n : ℕ) (r : Record) (o : Open job run n) (h : Head run n (Recorded r)) → (Full job run (toOf job n) → ⊥)
+      → totalsAt (run .live) (toOf job n) .count < 1048576
+      → stepped job c v run n ≡ answered 0 (takenIn job (x n o (Recorded r) h) (toOf job n) r)
+  unfolding recordReceived
+  record-done n r o h f l =
+      at-cargo n o (Recorded r) h
+      ∙ simp (not-full job (J .sends .sized) run F S (toOf job n) f, lt-leb 1048576 (totalsAt (run .live) (toOf job n) .count) l)
+
+  -- a barrier that does not complete the marks, lines 8 and 9
+  barrier-marks : (n : ℕ) (o : Open job run n) (h : Head run n Barrier) → (Completes job run n → ⊥)
+      → stepped job c v run n ≡ answered 0 (withMarked (set (run .marked) n true) (x n o Barrier h))
+  unfolding barrierReceived
+  barrier-marks n o h m = at-cargo n o Barrier h ∙ simp (not-completing job (J .sends .sized) run F S n (o .0) m)
+
+  -- one that does, lines 10 to 15
+  barrier-passes : (n : ℕ) (o : Open job run n) (h : Head run n Barrier) → Completes job run n → (Full job run (toOf job n) → ⊥)
+      → stepped job c v run n
+      ≡ completed job (storedBy job (withMarked (unmarked job (set (run .marked) n true) (toOf job n)) (x n o Barrier h)) (toOf job n))
+  unfolding barrierReceived
+  barrier-passes n o h m f =
+      at-cargo n o Barrier h
+      ∙ simp (is-completing job (J .sends .sized) run F S n (o .0) m, not-full job (J .sends .sized) run F S (toOf job n) f)
+
+  -- the marks after it
+  module _ (n : ℕ) (l : n < job .channels) where
+    abbrev ms : List Bool
+    ms = set (run .marked) n true
+
+    long : job .channels ≤ length ms
+    long = omega (arith, length-set (run .marked) n true, S .marked, few)
+
+    below-mark : (d : ℕ) → d < job .channels → flagAt (unmarked job ms (toOf job n)) d ≡ flagAt ms d && not (isInput job (toOf job n) d)
+    unfolding unmarked
+    below-mark d ld = place-at false (λ c mark. mark && not (isInput job (toOf job n) c)) ms (job .channels) d ld long
+
+    and-no : (b : Bool) → b && false ≡ false
+    and-no true = refl
+    and-no false = refl
+
+    and-yes : (b : Bool) → b && true ≡ b
+    and-yes true = refl
+    and-yes false = refl
+
+    cleared : (d : ℕ) → d < job .channels → toOf job d ≡ toOf job n → flagAt (unmarked job ms (toOf job n)) d ≡ false
+    cleared d ld e =
+        below-mark d ld ∙ ap (λ b. flagAt ms d && not b) (eq-eqb (toOf job d) (toOf job n) e) ∙ and-no (flagAt ms d)
+
+    kept : (d : ℕ) → (d < job .channels → toOf job d ≡ toOf job n → ⊥) → flagAt (unmarked job ms (toOf job n)) d ≡ flagAt (run .marked) d
+    unfolding unmarked
+    kept d out = go (ltb d (job .channels)) refl ∙ getD-set-other (run .marked) n d true false (λ e. out (omega arith) (ap (toOf job) e))
+      where
+        go : (b : Bool) → ltb d (job .channels) ≡ b → flagAt (unmarked job ms (toOf job n)) d ≡ flagAt ms d
+        go true e =
+            let ld = ltb-true d (job .channels) e in
+            below-mark d ld
+            ∙ ap (λ b. flagAt ms d && not b) (fails (isInput job (toOf job n) d) (eqb-true (toOf job d) (toOf job n)) (out ld))
+            ∙ and-yes (flagAt ms d)
+        go false e =
+            place-past false (λ c mark. mark && not (isInput job (toOf job n) c)) ms (job .channels) d (ltb-false d (job .channels) e)
+
+  -- ---- sources
+  read-done : (t : ℕ) → Source job t → offsetOf run t < natAbs (bOf job t) → (Full job run t → ⊥)
+      → stepped job c v run (32 + t) ≡ answered 0 (takenIn job run t (nextRecord job c v run t))
+  unfolding sourceRead
+  read-done t s l f =
+      at-read job c v run t (tasks-few t (s .0))
+      ∙ simp (
+        is-source job (J .sends .sized) run F S t s,
+        lt-leb (natAbs (bOf job t)) (offsetOf run t) l,
+        not-full job (J .sends .sized) run F S t f,
+      )
+
+  send-done : (t : ℕ) → Source job t → flagAt (run .waiting) t ≡ true → (Full job run t → ⊥)
+      → stepped job c v run (48 + t) ≡ completed job (storedBy job (withWaiting (set (run .waiting) t false) run) t)
+  unfolding barrierSent
+  send-done t s w f =
+      at-send job c v run t (tasks-few t (s .0))
+      ∙ simp (is-source job (J .sends .sized) run F S t s, w, not-full job (J .sends .sized) run F S t f)
+
+  wait-at : (t : ℕ) → Source job t → flagAt (sourcesWait job (run .waiting)) t ≡ true
+  unfolding sourcesWait
+  wait-at t s =
+      place-at false (λ t wait. wait || isSource job t) (run .waiting) (job .tasks) t (s .0)
+      (omega (arith, S .waiting, J .sends .sized .few-tasks))
+      ∙ ap (λ b. flagAt (run .waiting) t || b) (s .1) ∙ or-yes (flagAt (run .waiting) t)
+    where
+      or-yes : (b : Bool) → b || true ≡ true
+      or-yes true = refl
+      or-yes false = refl
+
+-- DEMAND 2
+pub demand-2 : (J : Columns) (run : Run) → Sized run → entry J run ≡ 0 → Demand2 J run
+unfolding begun cutOff
+demand-2 J run S z =
+    let A = admitted J run z in
+    let job = jobOf J in
+    let c = J .cylinders in
+    let v = J .values in
+    let JF = A .job-fits in
+    let F = A .run-fits in
+    let few′ = few job c v JF run F S in
+    record {
+      receive-record = λ n r o h f l.
+          let e = step-open J run n z ∙ record-done job c v JF run F S n r o h f l in (
+            ap (λ (s : Stepped). s .answer) e,
+            x job c v JF run F S n o (Recorded r) h,
+            taken job c v JF run F S n o (Recorded r) h,
+            subst (λ (s : Stepped). Received job (x job c v JF run F S n o (Recorded r) h) (s .run) (toOf job n) r) (sym e)
+                (received job few′ _ (toOf job n) r (x-ready job c v JF run F S n o (Recorded r) h f)),
+          );
+      receive-barrier = λ n o h m.
+          let e = step-open J run n z ∙ barrier-marks job c v JF run F S n o h m in (
+            ap (λ (s : Stepped). s .answer) e,
+            x job c v JF run F S n o Barrier h,
+            taken job c v JF run F S n o Barrier h,
+            subst (λ (s : Stepped). Marked job (x job c v JF run F S n o Barrier h) (s .run) n) (sym e) record {
+              mark = getD-set-same (run .marked) n true false (omega (arith, S .marked, few′, o .0));
+              marks = λ d ne. getD-set-other (run .marked) n d true false ne;
+              rest = refl;
+            },
+          );
+      pass-barrier = λ n o h m f.
+          let e = step-open J run n z ∙ barrier-passes job c v JF run F S n o h m f in (
+            x job c v JF run F S n o Barrier h,
+            _,
+            taken job c v JF run F S n o Barrier h,
+            passed job few′ _ (toOf job n) _ (x-ready job c v JF run F S n o Barrier h f)
+                (cleared job c v JF run F S n (o .0)) (kept job c v JF run F S n (o .0)),
+            subst (Sealed job _) (sym e) (sealed-by job few′ _),
+          );
+      read = λ t s l f.
+          let e = step-open J run (32 + t) z ∙ read-done job c v JF run F S t s l f in (
+            ap (λ (s : Stepped). s .answer) e,
+            subst (λ (y : Stepped). Received job run (y .run) t (nextRecord job c v run t)) (sym e)
+                (received job few′ run t (nextRecord job c v run t) (ready job c v JF run F S t (s .0) f)),
+          );
+      send-barrier = λ t s w f.
+          let e = step-open J run (48 + t) z ∙ send-done job c v JF run F S t s w f in
+          let R = ready job c v JF run F S t (s .0) f in (
+            _,
+            passed job few′ (withWaiting (set (run .waiting) t false) run) t (run .marked)
+                (record { queues = R .queues; live = R .live; half = R .half; stored = R .stored; room = R .room })
+                (λ d l q. absurd (true≢false (sym (s .1) ∙ ap (isSource job) (sym q) ∙ JF .no-input d l))) (λ d out. refl),
+            subst (Sealed job _) (sym e) (sealed-by job few′ _),
+          );
+      begin = λ u. (
+        sourcesWait job (run .waiting),
+        step-open J run 64 z ∙ at-begin job c v run ∙ simp u,
+        wait-at job c v JF run F S,
+      );
+      cut = step-open J run 65 z ∙ at-cut job c v run;
+    }
