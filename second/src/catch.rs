@@ -85,14 +85,18 @@ pub fn own_outputs(text: &[u8]) -> (Vec<u8>, Vec<u8>) {
     (totals, print(Program::Trace, &account))
 }
 
-/// Hunts on the outputs of other programs; true when every fault was caught.
+/// The cheap kinds first: the others are tried only for faults that are still silent.
+const ORDER: [&str; 6] = ["accepted", "broken", "jobs", "limits", "long", "heavy"];
+
+/// For each fault a case on which this program with the fault differs from the other program; the other program is run on that
+/// very case, and has to print what this one prints without a fault. True when every fault was caught.
 pub fn catch(totals: &str, trace: &str, from: u64, count: u64) -> bool {
     let mut hunt = Hunt::new();
     let mut disagreements = 0;
-    'all: for place in 0..count {
-        for kind in cases::KINDS {
+    for kind in ORDER {
+        for place in 0..count {
             if hunt.uncaught.is_empty() {
-                break 'all;
+                break;
             }
             let seed = from.wrapping_add(place);
             match try_programs(&mut hunt, totals, trace, kind, seed) {
@@ -113,6 +117,7 @@ pub fn catch(totals: &str, trace: &str, from: u64, count: u64) -> bool {
     failed == 0
 }
 
+/// Asks the other programs only where some fault would be seen.
 fn try_programs(
     hunt: &mut Hunt,
     totals: &str,
@@ -121,16 +126,26 @@ fn try_programs(
     seed: u64,
 ) -> Result<Vec<String>, String> {
     let text = cases::generate(kind, seed).ok_or("unknown kind")?;
-    let totals = child::ask(totals, &text)?;
-    let trace = child::ask(trace, &text)?;
-    if own_outputs(&text) != (totals.clone(), trace.clone()) {
-        return Err("the program and this one differ".to_string());
-    }
-    Ok(hunt.try_case(&Case {
+    let (own_totals, own_trace) = own_outputs(&text);
+    let own = Case {
         kind,
         seed,
         text: &text,
+        totals: &own_totals,
+        trace: &own_trace,
+    };
+    let shown = |entry: &Entry| seen(entry, &own).is_some();
+    if !hunt.uncaught.iter().any(shown) {
+        return Ok(Vec::new());
+    }
+    let totals = child::ask(totals, &text)?;
+    let trace = child::ask(trace, &text)?;
+    if (&totals, &trace) != (&own_totals, &own_trace) {
+        return Err("the program and this one differ".to_string());
+    }
+    Ok(hunt.try_case(&Case {
         totals: &totals,
         trace: &trace,
+        ..own
     }))
 }

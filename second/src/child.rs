@@ -6,7 +6,7 @@ use std::sync::mpsc;
 use std::thread;
 use std::time::{Duration, Instant};
 
-const PATIENCE: Duration = Duration::from_secs(60);
+const PATIENCE: Duration = Duration::from_secs(300);
 /// No text gives more than a few hundred thousand bytes.
 const LONGEST_OUTPUT: u64 = 16 << 20;
 
@@ -61,7 +61,7 @@ fn wait_until(child: &mut Child, deadline: Instant) -> Result<ExitStatus, String
         if Instant::now() >= deadline {
             drop(child.kill());
             drop(child.wait());
-            return Err("it was ended after 60 s".to_string());
+            return Err("it was ended after 300 s".to_string());
         }
         thread::sleep(Duration::from_micros(100));
     }

@@ -9,6 +9,9 @@ use std::sync::atomic::{AtomicU64, Ordering};
 use std::sync::Mutex;
 use std::time::{Duration, Instant};
 
+/// Between two lines of progress.
+const BETWEEN_LINES: Duration = Duration::from_secs(10);
+
 /// What is to be compared.
 pub struct Plan {
     pub program: Program,
@@ -73,11 +76,13 @@ fn work(plan: &Plan, next: &AtomicU64, progress: &Mutex<Progress>) {
                 progress.failed.push(seed);
             }
         }
-        if progress.said.elapsed() >= Duration::from_secs(1) {
+        if progress.said.elapsed() >= BETWEEN_LINES {
             progress.said = Instant::now();
             let failed = progress.failed.len();
             let done = progress.passed + failed as u64;
-            eprintln!("{} {done} of {}, {failed} failed", plan.kind, plan.count);
+            let program = plan.program.name();
+            let Plan { kind, count, .. } = plan;
+            eprintln!("{program} {kind}: {done} of {count}, {failed} failed");
         }
     }
 }
@@ -117,6 +122,7 @@ fn show(plan: &Plan, seed: u64, reason: &str) {
     let kind = &plan.kind;
     let program = plan.program.name();
     eprintln!("first difference, {kind} seed {seed}: {reason}");
-    eprintln!("  second gen {seed} {kind} | {}", plan.command);
-    eprintln!("  second gen {seed} {kind} | second {program}");
+    let second = std::env::args().next().unwrap_or("second".to_string());
+    eprintln!("  {second} gen {seed} {kind} | {}", plan.command);
+    eprintln!("  {second} gen {seed} {kind} | {second} {program}");
 }

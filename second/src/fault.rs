@@ -4,7 +4,7 @@ macro_rules! faults {
     ($($stage:ident { $($case:ident $name:literal $rule:literal;)* })*) => {
         /// `None` follows document 01; every other value is one wrong rule.
         #[derive(Clone, Copy, PartialEq, Eq, Debug)]
-        pub enum Fault { None, DrainHighest, $($($case),*),* }
+        pub enum Fault { None, $($($case),*),* }
 
         /// The faults that some text shows in the output of one of the programs.
         pub const ALL: &[Entry] = &[
@@ -34,15 +34,6 @@ pub struct Entry {
     pub rule: &'static str,
     pub stage: Stage,
 }
-
-/// Faults that neither program can show: the order of a drain changes neither its steps nor the
-/// totals after it, and the snapshot is printed as it stands before the drain.
-pub const SILENT: &[Entry] = &[Entry {
-    fault: Fault::DrainHighest,
-    name: "drain-highest",
-    rule: "a drain does the highest-numbered possible step",
-    stage: Stage::Run,
-}];
 
 faults! {
     Text {
@@ -110,6 +101,7 @@ faults! {
         CompleteUnsaid "complete-answers-0" "the completing step answers 0";
         SumOf32Bits "sum-of-32-bits" "the sum wraps at 32 bits";
         DrainLeaves "drain-leaves-snapshot" "nothing is left although a snapshot is under way";
+        DrainHighest "drain-highest" "a drain does the highest-numbered possible step";
         FirstStepOnly "list-first-step-only" "a list does its first step and counts the rest";
         RefusedDone "refused-counted-done" "a refused step is counted as done";
         NoSourceEmpty "no-source-answers-13" "a task that is no source answers 13";
@@ -117,10 +109,8 @@ faults! {
     }
 }
 
-/// The fault of a name, the silent ones too.
+/// The fault of a name.
 pub fn named(name: &str) -> Option<Fault> {
-    let mut entries = ALL.iter().chain(SILENT);
-    entries
-        .find(|entry| entry.name == name)
-        .map(|entry| entry.fault)
+    let named = ALL.iter().find(|entry| entry.name == name);
+    named.map(|entry| entry.fault)
 }

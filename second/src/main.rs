@@ -135,8 +135,5 @@ fn list_faults() -> bool {
     for entry in fault::ALL {
         lines.push_str(&format!("{}: {}\n", entry.name, entry.rule));
     }
-    for entry in fault::SILENT {
-        lines.push_str(&format!("{}: {} (silent)\n", entry.name, entry.rule));
-    }
     write_out(lines.as_bytes())
 }

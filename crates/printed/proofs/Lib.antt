@@ -1,0 +1,2 @@
+-- The proofs of specs/Printed.antt.
+pub mod Printed
