@@ -2,6 +2,7 @@
 ghost use mathlib.Core.Path.{_≡_};
 ghost use Prim.Native.Nat.{_<_, _≤_};
 ghost use mathlib.Core.Bool.{true};
+ghost use lib.Dec.{eqb};
 ghost use lib.IntN.{natAbs, pos};
 ghost use lib.ListN.{length};
 ghost use Rattle.kinds.specs.Kinds.{within};
@@ -13,11 +14,18 @@ use crate::Job;
 use kinds::Sending;
 use tally::Record;
 
+// Whether a channel's end, as it stands in its column, names the task.
+pub fn names(end: u8, t: usize) -> bool
+    ensures { λ r. ⌜ r ≡ eqb end t ⌝ }
+{
+    end as usize == t
+}
+
 pub fn is_output(job: Job, t: usize, c: usize) -> bool
     requires { ⌜ c < 32 ⌝ }
     ensures { λ r. ⌜ r ≡ isOutput job t c ⌝ }
 {
-    job.from[c] as usize == t
+    names(job.from[c], t)
 }
 
 // How many of the channels below `n` are outputs of the task: the place of channel `n` among them.
@@ -28,7 +36,7 @@ pub fn place_of(job: Job, t: usize, n: usize) -> u32
     let mut place: u32 = 0;
     let mut i: usize = 0;
     while i < n {
-        place += is_output(job, t, i) as u32;
+        place += names(job.from[i], t) as u32;
         i += 1;
     }
     place

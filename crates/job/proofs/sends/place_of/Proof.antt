@@ -10,23 +10,26 @@ use Rattle.job.proofs.sends.place_of.Statement.{statement}
 use Rattle.job.proofs.sends.place_of.Tie as tie
 
 abbrev Inv-loop : tie.InvT-loop
-Inv-loop job t n place₀ i₀ place i = (i ≤ n) × (place ≤ i) × (place ≡ placeOf job t i)
+Inv-loop t n job place₀ i₀ place i = (i ≤ n) × (place ≤ i) × (place ≡ placeOf job t i)
 
 abbrev μ-loop : tie.MeasureT-loop
-μ-loop job t n place₀ i₀ place i = n - i
+μ-loop t n job place₀ i₀ place i = n - i
 
 loop-holds : tie.Need-loop-holds Inv-loop μ-loop
 unfolding placeOf
 loop-holds c = search needs
 
-is-output-requires : tie.Need-is-output-requires Inv-loop μ-loop
-is-output-requires c κs = search needs
+element-copy-out-names : tie.Need-element-copy-out-names Inv-loop μ-loop
+element-copy-out-names c = search needs
+
+names-requires : tie.Need-names-requires Inv-loop μ-loop
+names-requires c κs = search needs
 
 cast-place : tie.Need-cast-place Inv-loop μ-loop
 cast-place c = search needs
 
 add-place : tie.Need-add-place Inv-loop μ-loop
-add-place c = omega (arith, byte-le (c .is-output .result))
+add-place c = omega (arith, byte-le (c .names .result))
 
 add-i : tie.Need-add-i Inv-loop μ-loop
 add-i c = search needs
@@ -36,7 +39,7 @@ loop-less c = search needs
 
 loop-again : tie.Need-loop-again Inv-loop μ-loop
 unfolding placeOf
-loop-again c = (search needs, omega (arith, byte-le (c .is-output .result)), rw add-one (cc))
+loop-again c = (search needs, omega (arith, byte-le (c .names .result)), rw add-one (cc))
 
 returns : tie.Need-returns Inv-loop μ-loop
 returns c = c .before .loop .inv .2 ∙ ap (placeOf _ _) (omega arith)
@@ -48,7 +51,8 @@ place-of-spec =
     Inv-loop
     μ-loop
     loop-holds
-    is-output-requires
+    element-copy-out-names
+    names-requires
     cast-place
     add-place
     add-i
