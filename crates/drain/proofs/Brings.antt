@@ -31,11 +31,12 @@ use Rattle.step.specs.Step.{isNoSource, offsetOf, nextRecord, sourceRead, stepp
 use Rattle.step.proofs.Rooms.{has-room}
 use Rattle.step.proofs.Sources.{opened, given}
 use Rattle.step.proofs.Lent.{record-fits, inside-part, part-short}
+use Rattle.step.proofs.Sending.{set-self}
 use Rattle.drain.specs.Drains.{taskLeft, tasksLeft, channelsLeft, someLeft, possible}
 use Rattle.drain.specs.Ready.{headMoves, deliversBy, sourceOf, actsBy, taskBy, channelBy}
 use Rattle.drain.specs.InPlace.{broughtBy, leftOn}
 use Rattle.drain.proofs.Possible.{headOf, by-delivery, by-read, delivery-ready, source-ready}
-use Rattle.drain.proofs.InPlace.{set-self, Delivers, delivers-says, Acts, acts-says}
+use Rattle.drain.proofs.InPlace.{Delivers, delivers-says, Acts, acts-says}
 
 or-first : (a b c : Bool) → a ≡ true → a || b || c ≡ true
 or-first true b c e = refl

@@ -14,6 +14,7 @@ use Rattle.tally.specs.declared.Record.{Record}
 use Rattle.tally.specs.declared.Totals.{Totals}
 use Rattle.tally.specs.Totals.{withValue}
 use Rattle.channel.specs.declared.Cargo.{Cargo}
+use Rattle.channel.specs.declared.Cargo.the-variants.{Record as Recorded}
 use Rattle.channel.specs.declared.Channel.{Channel}
 use Rattle.job.specs.declared.Job.{Job}
 use Rattle.job.specs.Jobs.{JobSized, kindOf, bOf, toOf}
@@ -22,11 +23,11 @@ use Rattle.run.specs.Runs.{withChannels, withLive}
 use Rattle.run.specs.Fit.{channelAt, totalsAt, flagAt}
 use Rattle.step.specs.Outputs.{someFull, putAll}
 use Rattle.step.specs.Algorithm.{takenIn}
+use Rattle.step.proofs.Sending.{putTo}
 use Rattle.drain.specs.Drains.{possible}
 use Rattle.drain.specs.Ready.{deliversBy, sourceOf, actsBy, channelBy}
-use Rattle.drain.specs.InPlace.{broughtBy, leftOn, carriedBy}
+use Rattle.drain.specs.InPlace.{broughtBy, leftOn}
 use Rattle.drain.proofs.Possible.{headOf, delivery-ready, source-ready}
-use Rattle.drain.proofs.InPlace.{putTo}
 
 pub channel-small : (n : ℕ) → channelBy n < 32
 channel-small n = go (ltb n 32) refl
@@ -71,14 +72,9 @@ brought-same cs vs n head head′ a a′ offset offset′ p q r = cc
 -- the stores of a read or a delivery, with what goes on the outputs
 pub stores-are : (job : Job) (run : Run) (n t c : ℕ) (got : Record) (now : Totals) (rest : Channel)
     → now ≡ withValue (totalsAt (run .live) t) (got .value) → rest ≡ leftOn n (channelAt run c)
-    → withChannels (putTo job t got (set (run .channels) c rest) (job .channels)) (withLive (set (run .live) t now) run)
+    → withChannels (putTo job t (Recorded got) (set (run .channels) c rest) (job .channels)) (withLive (set (run .live) t now) run)
     ≡ takenIn job (withChannels (set (run .channels) c (leftOn n (channelAt run c))) run) t got
 unfolding takenIn putAll
 stores-are job run n t c got now rest e q =
-    let held : Channel → List Channel = λ y. putTo job t got (set (run .channels) c y) (job .channels) in
+    let held : Channel → List Channel = λ y. putTo job t (Recorded got) (set (run .channels) c y) (job .channels) in
     ap₂ (λ (x : Totals) (y : Channel). withChannels (held y) (withLive (set (run .live) t x) run)) e q
-
-pub carry-same : (kind : ℕ) (a a′ b b′ : ℤ) (place place′ outputs outputs′ : ℕ) (got : Record) (ch : Channel)
-    → a ≡ a′ → b ≡ b′ → place ≡ place′ → outputs ≡ outputs′
-    → carriedBy kind a b place outputs got ch ≡ carriedBy kind a′ b′ place′ outputs′ got ch
-carry-same kind a a′ b b′ place place′ outputs outputs′ got ch p q r s = cc

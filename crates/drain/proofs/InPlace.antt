@@ -1,8 +1,8 @@
 -- The parts of a step done in place: the tasks noted as having a full output are those that have one (`full-at`), what a task sends goes
--- on one output after the other (`put-here`, `not-here`), and what a test that passed says (`delivers-says`, `acts-says`).
+-- on one output after the other (`put-in-place`, `left-in-place`), and what a test that passed says (`delivers-says`, `acts-says`).
 use mathlib.Core.Path.{_≡_, refl, sym, ap, ap₂, _∙_}
 use mathlib.Core.Bool.{Bool, true, false, cond, _&&_, _||_, false≢true}
-use mathlib.Core.List.{List, [], _∷_}
+use mathlib.Core.List.{List}
 use Prim.Native.Nat.{ℕ, zero, suc, _+_, _<_}
 use native.Mathlib.Numerals.{add-one}
 use native.Mathlib.Omega.{arith}
@@ -20,8 +20,10 @@ use Rattle.job.specs.Jobs.{kindOf, aOf, bOf, fromOf, isOutput, placeOf}
 use Rattle.run.specs.declared.Run.{Run}
 use Rattle.run.specs.Runs.{noChannel, withChannels}
 use Rattle.run.specs.Fit.{channelAt}
-use Rattle.step.specs.Outputs.{isFull, eachPlace, putOn}
-use Rattle.drain.specs.InPlace.{fullTo, outputsBy, carriedBy}
+use Rattle.step.specs.Outputs.{isFull}
+use Rattle.step.specs.Parts.{carriedBy}
+use Rattle.step.proofs.Sending.{putTo, put-here, not-here}
+use Rattle.drain.specs.InPlace.{fullTo, outputsBy}
 
 -- ---- the tasks with a full output
 or-false : (b : Bool) → b ≡ b || false
@@ -77,43 +79,24 @@ outputs-place job t zero = refl
 outputs-place job t (suc n) = ap (λ (k : ℕ). k + boolByte (isOutput job t n)) (outputs-place job t n)
 
 -- ---- one output after the other
-pub set-self : {A : Type 0} (l : List A) (i : ℕ) (d : A) → set l i (getD l i d) ≡ l
-set-self [] i d = refl
-set-self (x ∷ xs) zero d = refl
-set-self (x ∷ xs) (suc i) d = ap (λ l. x ∷ l) (set-self xs i d)
-
-abbrev pub putTo : Job → ℕ → Record → List Channel → ℕ → List Channel
-putTo job t got held j = eachPlace noChannel (putOn job t (Recorded got)) held j
-
 module _ (job : Job) (t : ℕ) (got : Record) (start run : Run) (j : ℕ)
-    (so-far : run ≡ withChannels (putTo job t got (start .channels) j) start) where
+    (so-far : run ≡ withChannels (putTo job t (Recorded got) (start .channels) j) start) where
   abbrev carriedOn : Channel → Channel
   carriedOn ch = carriedBy (kindOf job t) (aOf job t) (bOf job t) (placeOf job t j) (placeOf job t (job .channels)) got ch
 
-  pub put-here : (next : Channel) → isOutput job t j ≡ true
+  pub put-in-place : (next : Channel) → isOutput job t j ≡ true
       → next ≡ carriedOn (channelAt run j)
-      → withChannels (set (run .channels) j next) run ≡ withChannels (putTo job t got (start .channels) (j + 1)) start
-  unfolding eachPlace putOn carriedBy
-  put-here next o n =
-      let p = putTo job t got (start .channels) j in
+      → withChannels (set (run .channels) j next) run ≡ withChannels (putTo job t (Recorded got) (start .channels) (j + 1)) start
+  put-in-place next o n =
+      let now = putTo job t (Recorded got) (start .channels) j in
       ap (λ (z : Run). withChannels (set (z .channels) j next) z) so-far
-      ∙ ap (λ (x : Channel). withChannels (set p j x) start)
-      (n ∙ ap (λ (z : Run). carriedOn (channelAt z j)) so-far)
-      ∙ rw add-one (simp o)
+      ∙ ap (λ (x : List Channel). withChannels x start)
+      (put-here job t (Recorded got) (start .channels) now j refl next o (n ∙ ap (λ (z : Run). carriedOn (channelAt z j)) so-far))
 
-  pub not-here : isOutput job t j ≡ false → run ≡ withChannels (putTo job t got (start .channels) (j + 1)) start
-  unfolding eachPlace putOn
-  not-here o =
-      let same = sym (set-self (putTo job t got (start .channels) j) j noChannel) in
-      so-far ∙ rw add-one (simp o (ap (λ (x : List Channel). withChannels x start) same))
-
-pub place-here : (job : Job) (t j p : ℕ) → isOutput job t j ≡ true → p ≡ placeOf job t j → p + 1 ≡ placeOf job t (j + 1)
-unfolding placeOf
-place-here job t j p o e = ap (λ (x : ℕ). x + 1) e ∙ sym (rw add-one (simp o))
-
-pub place-not : (job : Job) (t j p : ℕ) → isOutput job t j ≡ false → p ≡ placeOf job t j → p ≡ placeOf job t (j + 1)
-unfolding placeOf
-place-not job t j p o e = e ∙ rw add-one (simp o (omega arith))
+  pub left-in-place : isOutput job t j ≡ false → run ≡ withChannels (putTo job t (Recorded got) (start .channels) (j + 1)) start
+  left-in-place o =
+      let now = putTo job t (Recorded got) (start .channels) j in
+      so-far ∙ ap (λ (x : List Channel). withChannels x start) (not-here job t (Recorded got) (start .channels) now j refl o)
 
 -- ---- what a possible step says
 pub record Delivers (channels c count : ℕ) (marked moves : Bool) : Type 0 where

@@ -18,12 +18,13 @@ use Rattle.run.specs.declared.Run.{Run}
 use Rattle.run.specs.Fit.{channelAt, totalsAt, flagAt}
 use Rattle.step.specs.declared.Stepped.{Stepped}
 use Rattle.step.specs.Outputs.{someFull, allMarked, allStored}
+use Rattle.step.specs.Parts.{allMarkedBy}
 use Rattle.step.specs.Algorithm.{answered, completed, barrierReceived, recordReceived}
 use Rattle.step.specs.Step.{withCargo, withTaken, delivered, isNoSource, offsetOf, sourceRead, barrierSent, stepped}
 use Rattle.step.proofs.Fitting.{cond-has}
 use Rattle.drain.specs.Lists.{isDone}
 use Rattle.drain.specs.Drains.{possible}
-use Rattle.drain.specs.Ready.{allMarkedBy, headMoves, deliversBy, sourceOf, actsBy}
+use Rattle.drain.specs.Ready.{headMoves, deliversBy, sourceOf, actsBy}
 
 -- ---- tests turned round
 pub ltb-not : (a b : ℕ) → ltb a b ≡ not (leb b a)

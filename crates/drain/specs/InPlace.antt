@@ -1,6 +1,6 @@
--- The words of a drain that works in place: which tasks have a full output, what a step brings to its task, what it leaves behind and puts
--- on each output, and the answer at the end. By numbers, one channel and one record; that they are the step's own is `brings` in
--- proofs/Brings.antt.
+-- The words of a drain that works in place: which tasks have a full output, how many outputs a task has, what a step brings to its task and
+-- leaves behind, and the answer at the end. By numbers, columns and one channel; that they are the step's own is `brings` in
+-- proofs/Brings.antt. What goes on each output is `carriedBy` of the plain step (step/specs/Parts.antt).
 use mathlib.Core.Bool.{Bool, false, cond, _||_}
 use mathlib.Core.List.{List}
 use Prim.Native.Nat.{ℕ, zero, suc, _+_}
@@ -8,8 +8,6 @@ use lib.Dec.{eqb, ltb}
 use lib.IntN.{ℤ, natAbs}
 use lib.ListN.{getD, set, replicate}
 use mir.Val.{boolByte}
-use Rattle.tally.specs.declared.Record.{Record}
-use Rattle.kinds.specs.Kinds.{sentOn}
 use Rattle.channel.specs.declared.Cargo.{Cargo}
 use Rattle.channel.specs.declared.Cargo.the-variants.{Barrier, Record as Recorded}
 use Rattle.channel.specs.declared.Channel.{Channel}
@@ -18,7 +16,7 @@ use Rattle.job.specs.declared.Job.{Job}
 use Rattle.job.specs.Columns.{recordAt}
 use Rattle.job.specs.Jobs.{fromOf}
 use Rattle.run.specs.Runs.{noChannel}
-use Rattle.step.specs.Outputs.{isFull, putSent}
+use Rattle.step.specs.Outputs.{isFull}
 
 -- one pass over the channels notes the tasks that have a full output
 unfoldable pub fullTo : Job → List Channel → ℕ → List Bool
@@ -38,9 +36,6 @@ broughtBy c v n head a offset = cond (ltb n 32) head (cond (ltb n 48) (Recorded 
 -- a delivery takes the head, a read leaves the channel as it is
 unfoldable pub leftOn : ℕ → Channel → Channel
 leftOn n ch = cond (ltb n 32) (withoutHead ch .channel) ch
-
-unfoldable pub carriedBy : ℕ → ℤ → ℤ → ℕ → ℕ → Record → Channel → Channel
-carriedBy kind a b place outputs r ch = putSent ch (sentOn kind a b place outputs r)
 
 -- "Nothing left comes before 18, 18 before 19."
 abbrev pub lastAnswer : Bool → Bool → ℕ

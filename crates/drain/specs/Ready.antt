@@ -1,6 +1,6 @@
 -- Whether a step of 0 to 63 is possible, told by its parts: numbers, flags, the head of one channel. The definition of the drain asks the
 -- whole step (`possible`); the code asks this. That the two agree is `delivery-ready` and `source-ready` in proofs/Possible.antt.
-use mathlib.Core.Bool.{Bool, true, false, cond, not, _&&_, _||_}
+use mathlib.Core.Bool.{Bool, true, false, cond, not, _&&_}
 use mathlib.Core.List.{List}
 use Prim.Native.Nat.{ℕ, _%_}
 use lib.Dec.{eqb, ltb, leb}
@@ -8,11 +8,7 @@ use lib.IntN.{ℤ, natAbs}
 use lib.ListN.{getD, set}
 use Rattle.channel.specs.declared.Cargo.{Cargo}
 use Rattle.channel.specs.declared.Cargo.the-variants.{Barrier, Record as Recorded}
-use Rattle.job.specs.Tests.{every}
-
--- "all inputs of the task are marked"
-unfoldable pub allMarkedBy : List ℕ → List Bool → ℕ → ℕ → Bool
-allMarkedBy to marked channels t = every (λ c. not (eqb (getD to c 0) t) || getD marked c false) channels
+use Rattle.step.specs.Parts.{allMarkedBy}
 
 -- 14 "applies to a record, also one that the task will drop, and to a barrier that completes the task's marks. 17 applies to a record
 -- only."

@@ -184,7 +184,7 @@ pub fn drain(job: Job, cylinders: &[i32], values: &[i32], run: Run, limit: u32) 
                 while j < channels {
                     if ready::task(job.from[j]) == t {
                         let out = r.channels[j];
-                        let next = sending::carry(kind, a, b, place, outputs, got, out);
+                        let next = step::parts::carry(kind, a, b, place, outputs, got, out);
                         r.channels[j] = next;
                         place += 1;
                     }

@@ -5,7 +5,7 @@ ghost use mathlib.Core.Bool.{true};
 ghost use Prim.Native.Nat.{_<_, _≤_};
 ghost use lib.IntN.{pos};
 ghost use lib.Signed.{leZ};
-ghost use Rattle.drain.specs.Ready.{allMarkedBy, headMoves, deliversBy, sourceOf, actsBy};
+ghost use Rattle.drain.specs.Ready.{headMoves, deliversBy, sourceOf, actsBy};
 use channel::Cargo;
 
 // A task's number as it stands in a column.
@@ -13,20 +13,6 @@ pub fn task(end: u8) -> usize
     ensures { λ r. ⌜ r ≡ end ⌝ }
 {
     end as usize
-}
-
-// Whether every channel that leads into the task is marked.
-fn all_marked(to: &[u8; 32], marked: &[bool; 32], channels: usize, t: usize) -> bool
-    requires { ⌜ channels ≤ 32 ⌝ }
-    ensures { λ r. ⌜ r ≡ allMarkedBy (now (to .entry)) (now (marked .entry)) channels t ⌝ }
-{
-    let mut all = true;
-    let mut c: usize = 0;
-    while c < channels {
-        all = all & ((task(to[c]) != t) | marked[c]);
-        c += 1;
-    }
-    all
 }
 
 // Whether the head of the channel can be received: a record needs room on every output and in the count, a barrier only where it is the
@@ -48,7 +34,7 @@ fn moves(
             if full {
                 let mut marks = *marked;
                 marks[c] = true;
-                return !all_marked(to, &marks, channels, task(to[c]));
+                return !step::parts::all_marked(to, &marks, channels, task(to[c]));
             }
             true
         }

@@ -1,4 +1,4 @@
-// What a step that takes a record in brings to its task, what it leaves behind, and what goes on each output.
+// What a step that takes a record in brings to its task, what it leaves behind, and how many outputs the task has.
 ghost use mathlib.Core.Path.{_≡_};
 ghost use mathlib.Core.Bool.{true, false};
 ghost use Prim.Native.Nat.{_<_, _≤_, _+_};
@@ -6,16 +6,12 @@ ghost use lib.Dec.{ltb};
 ghost use lib.IntN.{pos, natAbs};
 ghost use lib.ListN.{length};
 ghost use lib.Signed.{leZ};
-ghost use Rattle.kinds.specs.Kinds.{Sendable};
 ghost use Rattle.job.specs.Columns.{RecordsFit};
 ghost use Rattle.drain.specs.Ready.{taskBy, channelBy};
-ghost use Rattle.drain.specs.InPlace.{outputsBy, broughtBy, leftOn, carriedBy};
+ghost use Rattle.drain.specs.InPlace.{outputsBy, broughtBy, leftOn};
 use crate::ready;
 use channel::Cargo;
 use channel::Channel;
-use channel::Item;
-use kinds::Sending;
-use tally::Record;
 
 // The task that a step of 0 to 63 speaks of.
 pub fn task_of(to: &[u8; 32], n: u16) -> usize
@@ -87,29 +83,4 @@ pub fn left_on(n: u16, ch: Channel) -> Channel
         return got.channel;
     }
     ch
-}
-
-// What a task of the kind puts on its output at `place` of `outputs` for a record that it received.
-pub fn carry(
-    kind: u8,
-    a: i32,
-    b: i32,
-    place: u32,
-    outputs: u32,
-    got: Record,
-    ch: Channel,
-) -> Channel
-    requires { ⌜ Sendable kind a got ⌝ }
-    ensures { λ r. ⌜ r ≡ carriedBy kind a b place outputs got ch ⌝ }
-{
-    let s = kinds::sent(kind, a, b, place, outputs, got);
-    match s {
-        Sending::Nothing => ch,
-        Sending::One(r) => {
-            let put = ch.added(Item {
-                cargo: Cargo::Record(r),
-            });
-            put.channel
-        }
-    }
 }

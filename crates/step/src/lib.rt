@@ -8,6 +8,7 @@ ghost use Rattle.step.specs.Step.{stepped};
 
 mod algorithm;
 mod outputs;
+pub mod parts;
 mod rules;
 
 use job::Job;

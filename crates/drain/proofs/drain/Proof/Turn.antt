@@ -18,6 +18,7 @@ use mir.Facts.{toZ-ofZ}
 use mir.Syntax.{w32}
 use mir.Val.{SFits}
 use Rattle.tally.specs.Totals.{withValue}
+use Rattle.channel.specs.declared.Cargo.the-variants.{Record as Recorded}
 use Rattle.job.specs.Jobs.{placeOf, aOf, bOf, isOutput}
 use Rattle.run.specs.Runs.{withChannels, withLive}
 use Rattle.run.specs.Fit.{channelAt, totalsAt, Fits}
@@ -28,14 +29,15 @@ use Rattle.step.specs.Outputs.{someFull}
 use Rattle.step.specs.Algorithm.{takenIn}
 use Rattle.step.proofs.Cargos.{value-fits, cylinder-from-1}
 use Rattle.step.proofs.Keeps.{stepped-fits}
+use Rattle.step.proofs.Sending.{putTo, put-same, place-here, place-not}
 use Rattle.drain.specs.Drains.{possible, firstFrom, lowest, drainedOf, ended}
 use Rattle.drain.specs.Ready.{taskBy, channelBy}
 use Rattle.drain.specs.InPlace.{fullTo, broughtBy, leftOn, lastAnswer}
 use Rattle.drain.proofs.Draining.{first-hit, first-end, goes-on, ends, one-step}
-use Rattle.drain.proofs.InPlace.{full-at, putTo, outputs-place, put-here, not-here, place-here, place-not}
+use Rattle.drain.proofs.InPlace.{full-at, outputs-place, put-in-place, left-in-place}
 use Rattle.drain.proofs.Possible.{headOf}
 use Rattle.drain.proofs.Brings.{Brings, brings, task-there, brought-inside, possible-left}
-use Rattle.drain.proofs.Hits.{channel-small, delivery-hit, source-hit, brought-same, stores-are, carry-same}
+use Rattle.drain.proofs.Hits.{channel-small, delivery-hit, source-hit, brought-same, stores-are}
 use Rattle.drain.proofs.drain.Tie as tie
 
 abbrev pub I2 : tie.InvT-loop2
@@ -53,7 +55,7 @@ m3 cylinders values limit job channels tasks r steps full k i₀ i = 64 - i
 
 abbrev pub I4 : tie.InvT-loop4
 I4 cylinders values limit job channels tasks r₀ steps k i n t c got outputs kind a b place₀ j₀ r place j =
-    (j ≤ channels) × (r ≡ withChannels (putTo job t got (r₀ .channels) j) r₀) × (place ≡ placeOf job t j) × (place ≤ j)
+    (j ≤ channels) × (r ≡ withChannels (putTo job t (Recorded got) (r₀ .channels) j) r₀) × (place ≡ placeOf job t j) × (place ≤ j)
 
 abbrev pub m4 : tie.MeasureT-loop4
 m4 cylinders values limit job channels tasks r₀ steps k i n t c got outputs kind a b place₀ j₀ r place j = channels - j
@@ -208,7 +210,7 @@ put-out c =
     let l = c .before .loop4 in
     let j : l .j ≡ job .channels = omega (arith, l .inv .0, c .loop4-test .left) in
     let x = is-value (got .value) (value-fits got (k .fits)) in
-    l .inv .1 ∙ ap (λ i. withChannels (putTo job (t .result) got (start .channels) i) start) j
+    l .inv .1 ∙ ap (λ i. withChannels (putTo job (t .result) (Recorded got) (start .channels) i) start) j
     ∙ stores-are job r n (t .result) (d .result) got (now .result) (rest .result)
     (now .ensures ∙ ap (withValue (totalsAt (r .live) (t .result))) (toZ-ofZ x)) (rest .ensures)
     ∙ ap₂ (λ u h. takenIn job (withChannels (set (r .channels) h (leftOn n (channelAt r h))) r) u got) (t .ensures) (d .ensures)
@@ -293,15 +295,15 @@ loop4-again c =
     (λ w.
     let o : isOutput job t (l .j) ≡ true = eq-eqb _ _ (sym (c .before .task3 .ensures) ∙ w .0 .taken) in (
       omega (arith, less),
-      w .3 ∙ put-here job t got start (l .r) (l .j) (l .inv .1) (w .2 .result) o
-          (w .2 .ensures ∙ carry-same _ _ _ _ _ _ _ _ _ got _ (toZ-ofZ x) (toZ-ofZ y) (l .inv .2) outputs),
+      w .3 ∙ put-in-place job t got start (l .r) (l .j) (l .inv .1) (w .2 .result) o
+          (w .2 .ensures ∙ put-same _ _ _ _ _ _ _ _ _ (Recorded got) _ (toZ-ofZ x) (toZ-ofZ y) (l .inv .2) outputs),
       w .4 ∙ place-here job t (l .j) (l .place) o (l .inv .2),
       omega (arith, w .4, l .inv .3),
     ))
     (λ w.
     let o : isOutput job t (l .j) ≡ false = ne-eqb _ _ (λ q. w .0 .left (c .before .task3 .ensures ∙ q)) in (
       omega (arith, less),
-      w .1 ∙ not-here job t got start (l .r) (l .j) (l .inv .1) o,
+      w .1 ∙ left-in-place job t got start (l .r) (l .j) (l .inv .1) o,
       w .2 ∙ place-not job t (l .j) (l .place) o (l .inv .2),
       omega (arith, w .2, l .inv .3),
     ))

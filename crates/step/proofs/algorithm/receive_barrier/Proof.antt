@@ -1,6 +1,7 @@
 -- `step::algorithm::receive_barrier` meets its contract.
 use mathlib.Core.Path.{_∙_, sym}
 use Rattle.step.specs.Algorithm.{barrierReceived}
+use Rattle.step.proofs.Sending.{marked-by}
 use borrow.Author.Needs.{needs}
 use Rattle.step.proofs.algorithm.receive_barrier.Statement.{statement}
 use Rattle.step.proofs.algorithm.receive_barrier.Tie as tie
@@ -9,21 +10,22 @@ array-write-marked : tie.Need-array-write-marked
 array-write-marked c = search needs
 
 all-marked-requires : tie.Need-all-marked-requires
-all-marked-requires c κs = c .before .before .pre .2 .sized
+all-marked-requires c κs = c .before .before .before .before .before .pre .2 .sized .few-channels
 
 some-full-requires : tie.Need-some-full-requires
-some-full-requires c κs = c .before .before .before .before .pre .2 .sized
+some-full-requires c κs = c .before .before .before .before .before .before .before .pre .2 .sized
 
 returns : tie.Need-returns
 unfolding barrierReceived
 returns c =
+    let job = c .before .before .before .before .before .before .before .before .before .args .t1 in
     simp (
-      sym (c .before .before .before .all-marked .ensures) ∙ c .before .before .if1 .taken,
+      sym (marked-by job _ _) ∙ sym (c .before .before .before .all-marked .ensures) ∙ c .before .before .if1 .taken,
       sym (c .before .some-full .ensures) ∙ c .if2 .taken,
     )
 
 unmark-requires : tie.Need-unmark-requires
-unmark-requires c κs = c .before .before .before .before .before .before .pre .2 .sized
+unmark-requires c κs = c .before .before .before .before .before .before .before .before .before .pre .2 .sized
 
 mul-rest : tie.Need-mul-rest
 mul-rest c = search needs
@@ -32,17 +34,19 @@ element-set-from-rest : tie.Need-element-set-from-rest
 element-set-from-rest c = search needs
 
 store-requires : tie.Need-store-requires
-store-requires c κs = let p = c .before .before .before .before .before .before .before .pre in (p .0, p .2)
+store-requires c κs = let p = c .before .before .before .before .before .before .before .before .before .before .pre in (p .0, p .2)
 
 complete-requires : tie.Need-complete-requires
-complete-requires c κs = c .before .before .before .before .before .before .before .before .pre .2 .sized
+complete-requires c κs = c .before .before .before .before .before .before .before .before .before .before .before .pre .2 .sized
 
 returns-2 : tie.Need-returns-2
 unfolding barrierReceived
 returns-2 c =
+    let job = c .before .before .before .before .before .before .before .before .before .before .before .before .args .t1 in
     c .complete .ensures
     ∙ simp (
-      sym (c .before .before .before .before .before .before .all-marked .ensures) ∙ c .before .before .before .before .before .if1 .taken,
+      sym (marked-by job _ _) ∙ sym (c .before .before .before .before .before .before .all-marked .ensures)
+          ∙ c .before .before .before .before .before .if1 .taken,
       sym (c .before .before .before .before .some-full .ensures) ∙ c .before .before .before .if2 .left,
       c .before .store .ensures,
       c .before .before .unmark .ensures,
@@ -56,7 +60,9 @@ element-set-from-rest-2 c = search needs
 
 returns-3 : tie.Need-returns-3
 unfolding barrierReceived
-returns-3 c = simp (sym (c .before .all-marked .ensures) ∙ c .if1 .left)
+returns-3 c =
+    let job = c .before .before .before .before .before .before .before .args .t1 in
+    simp (sym (marked-by job _ _) ∙ sym (c .before .all-marked .ensures) ∙ c .if1 .left)
 
 pub receive-barrier-spec : {M : Type 1} → statement M
 receive-barrier-spec =

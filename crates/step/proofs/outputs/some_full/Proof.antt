@@ -14,10 +14,10 @@ use Rattle.step.proofs.outputs.some_full.Statement.{statement}
 use Rattle.step.proofs.outputs.some_full.Tie as tie
 
 abbrev Inv-loop : tie.InvT-loop
-Inv-loop job t held n found₀ c₀ found c = (c ≤ n) × (found ≡ some (λ k. isOutput job t k && isFull (getD held k noChannel)) c)
+Inv-loop t job held n found₀ c₀ found c = (c ≤ n) × (found ≡ some (λ k. isOutput job t k && isFull (getD held k noChannel)) c)
 
 abbrev μ-loop : tie.MeasureT-loop
-μ-loop job t held n found₀ c₀ found c = n - c
+μ-loop t job held n found₀ c₀ found c = n - c
 
 loop-holds : tie.Need-loop-holds Inv-loop μ-loop
 unfolding some
@@ -29,8 +29,11 @@ mul-ch c = omega (arith, c .before .before .pre .few-channels)
 array-copy-out-ch : tie.Need-array-copy-out-ch Inv-loop μ-loop
 array-copy-out-ch c = omega (arith, c .before .before .pre .few-channels)
 
-is-output-requires : tie.Need-is-output-requires Inv-loop μ-loop
-is-output-requires c κs = omega (arith, c .before .before .before .pre .few-channels)
+element-copy-out-names : tie.Need-element-copy-out-names Inv-loop μ-loop
+element-copy-out-names c = omega (arith, c .before .before .before .pre .few-channels)
+
+names-requires : tie.Need-names-requires Inv-loop μ-loop
+names-requires c κs = search needs
 
 is-full-requires : tie.Need-is-full-requires Inv-loop μ-loop
 is-full-requires c κs = search needs
@@ -42,7 +45,9 @@ loop-less : tie.Need-loop-less Inv-loop μ-loop
 loop-less c = search needs
 
 loop-again : tie.Need-loop-again Inv-loop μ-loop
-loop-again c = (search needs, some-more _ _ (c .before .before .before .before .loop .inv .1) (ap₂ _&&_ (c .before .is-output .ensures) (c .is-full .ensures)))
+loop-again c =
+    let so-far = c .before .before .before .before .before .loop .inv .1 in
+    (search needs, some-more _ _ so-far (ap₂ _&&_ (c .before .names .ensures) (c .is-full .ensures)))
 
 returns : tie.Need-returns Inv-loop μ-loop
 unfolding someFull
@@ -57,7 +62,8 @@ some-full-spec =
     loop-holds
     mul-ch
     array-copy-out-ch
-    is-output-requires
+    element-copy-out-names
+    names-requires
     is-full-requires
     add-c
     loop-less

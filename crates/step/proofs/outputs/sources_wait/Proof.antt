@@ -24,8 +24,8 @@ loop-holds c = search needs
 array-read-next : tie.Need-array-read-next Inv-loop μ-loop
 array-read-next c = omega (arith, c .before .before .pre .few-tasks)
 
-is-source-requires : tie.Need-is-source-requires Inv-loop μ-loop
-is-source-requires c κs = omega (arith, c .before .before .pre .few-tasks)
+element-copy-out-next : tie.Need-element-copy-out-next Inv-loop μ-loop
+element-copy-out-next c = omega (arith, c .before .before .pre .few-tasks)
 
 array-write-next : tie.Need-array-write-next Inv-loop μ-loop
 array-write-next c = omega (arith, c .before .before .before .pre .few-tasks)
@@ -37,7 +37,7 @@ loop-less : tie.Need-loop-less Inv-loop μ-loop
 loop-less c = search needs
 
 loop-again : tie.Need-loop-again Inv-loop μ-loop
-loop-again c = (search needs, place-more false _ _ _ (c .before .before .loop .inv .1) (simp (c .is-source .ensures)))
+loop-again c = (search needs, place-more false _ _ _ (c .before .before .loop .inv .1) refl)
 
 returns : tie.Need-returns Inv-loop μ-loop
 unfolding sourcesWait
@@ -51,7 +51,7 @@ sources-wait-spec =
     μ-loop
     loop-holds
     array-read-next
-    is-source-requires
+    element-copy-out-next
     array-write-next
     add-t
     loop-less

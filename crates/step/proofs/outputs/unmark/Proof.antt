@@ -12,10 +12,10 @@ use Rattle.step.proofs.outputs.unmark.Statement.{statement}
 use Rattle.step.proofs.outputs.unmark.Tie as tie
 
 abbrev Inv-loop : tie.InvT-loop
-Inv-loop job t n next₀ c₀ next c = (c ≤ n) × (next ≡ eachPlace false (λ k mark. mark && not (isInput job t k)) next₀ c)
+Inv-loop t job n next₀ c₀ next c = (c ≤ n) × (next ≡ eachPlace false (λ k mark. mark && not (isInput job t k)) next₀ c)
 
 abbrev μ-loop : tie.MeasureT-loop
-μ-loop job t n next₀ c₀ next c = n - c
+μ-loop t job n next₀ c₀ next c = n - c
 
 loop-holds : tie.Need-loop-holds Inv-loop μ-loop
 unfolding eachPlace
@@ -24,11 +24,14 @@ loop-holds c = search needs
 array-read-next : tie.Need-array-read-next Inv-loop μ-loop
 array-read-next c = omega (arith, c .before .before .pre .few-channels)
 
-is-input-requires : tie.Need-is-input-requires Inv-loop μ-loop
-is-input-requires c κs = omega (arith, c .before .before .pre .few-channels)
+element-copy-out-names : tie.Need-element-copy-out-names Inv-loop μ-loop
+element-copy-out-names c = omega (arith, c .before .before .pre .few-channels)
+
+names-requires : tie.Need-names-requires Inv-loop μ-loop
+names-requires c κs = search needs
 
 array-write-next : tie.Need-array-write-next Inv-loop μ-loop
-array-write-next c = omega (arith, c .before .before .before .pre .few-channels)
+array-write-next c = omega (arith, c .before .before .before .before .pre .few-channels)
 
 add-c : tie.Need-add-c Inv-loop μ-loop
 add-c c = search needs
@@ -37,7 +40,7 @@ loop-less : tie.Need-loop-less Inv-loop μ-loop
 loop-less c = search needs
 
 loop-again : tie.Need-loop-again Inv-loop μ-loop
-loop-again c = (search needs, place-more false _ _ _ (c .before .before .loop .inv .1) (simp (c .is-input .ensures)))
+loop-again c = (search needs, place-more false _ _ _ (c .before .before .before .loop .inv .1) (simp (c .names .ensures)))
 
 returns : tie.Need-returns Inv-loop μ-loop
 unfolding unmarked
@@ -51,7 +54,8 @@ unmark-spec =
     μ-loop
     loop-holds
     array-read-next
-    is-input-requires
+    element-copy-out-names
+    names-requires
     array-write-next
     add-c
     loop-less

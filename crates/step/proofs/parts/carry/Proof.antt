@@ -1,12 +1,12 @@
--- `drain::sending::carry` meets its contract.
+-- `step::parts::carry` meets its contract.
 use mir.Facts.{toZ-ofZ}
 use Rattle.channel.specs.declared.Added.{Added}
 use Rattle.step.specs.Outputs.{putSent}
 use mathlib.Core.Path.{_∙_, ap, sym}
-use Rattle.drain.specs.InPlace.{carriedBy}
+use Rattle.step.specs.Parts.{carriedBy}
 use borrow.Author.Needs.{needs}
-use Rattle.drain.proofs.sending.carry.Statement.{statement}
-use Rattle.drain.proofs.sending.carry.Tie as tie
+use Rattle.step.proofs.parts.carry.Statement.{statement}
+use Rattle.step.proofs.parts.carry.Tie as tie
 
 sent-requires : tie.Need-sent-requires
 sent-requires c κs = search needs

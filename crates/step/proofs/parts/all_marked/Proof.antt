@@ -1,4 +1,4 @@
--- `drain::ready::all_marked` meets its contract.
+-- `step::parts::all_marked` meets its contract.
 use mathlib.Core.Path.{_≡_, refl, ap, _∙_}
 use mathlib.Core.Bool.{false, not, _||_}
 use Prim.Native.Nat.{_≤_, _-_}
@@ -8,9 +8,9 @@ use lib.ListN.{getD}
 use borrow.Author.Needs.{needs}
 use Rattle.job.specs.Tests.{every}
 use Rattle.job.proofs.Tests.{every-more}
-use Rattle.drain.specs.Ready.{allMarkedBy}
-use Rattle.drain.proofs.ready.all_marked.Statement.{statement}
-use Rattle.drain.proofs.ready.all_marked.Tie as tie
+use Rattle.step.specs.Parts.{allMarkedBy}
+use Rattle.step.proofs.parts.all_marked.Statement.{statement}
+use Rattle.step.proofs.parts.all_marked.Tie as tie
 
 abbrev Inv-loop : tie.InvT-loop
 Inv-loop to marked channels t all₀ c₀ all c = (c ≤ channels) × (all ≡ every (λ k. not (eqb (getD to k 0) t) || getD marked k false) c)
@@ -22,11 +22,11 @@ loop-holds : tie.Need-loop-holds Inv-loop μ-loop
 unfolding every
 loop-holds c = search needs
 
-element-copy-out-task : tie.Need-element-copy-out-task Inv-loop μ-loop
-element-copy-out-task c = search needs
+element-copy-out-names : tie.Need-element-copy-out-names Inv-loop μ-loop
+element-copy-out-names c = search needs
 
-task-requires : tie.Need-task-requires Inv-loop μ-loop
-task-requires c κs = search needs
+names-requires : tie.Need-names-requires Inv-loop μ-loop
+names-requires c κs = search needs
 
 element-copy-out-all : tie.Need-element-copy-out-all Inv-loop μ-loop
 element-copy-out-all c = search needs
@@ -38,7 +38,7 @@ loop-less : tie.Need-loop-less Inv-loop μ-loop
 loop-less c = search needs
 
 loop-again : tie.Need-loop-again Inv-loop μ-loop
-loop-again c = (search needs, every-more _ _ (c .before .before .before .before .loop .inv .1) (simp (c .before .task .ensures)))
+loop-again c = (search needs, every-more _ _ (c .before .before .before .before .loop .inv .1) (simp (c .before .names .ensures)))
 
 returns : tie.Need-returns Inv-loop μ-loop
 unfolding allMarkedBy
@@ -51,8 +51,8 @@ all-marked-spec =
     Inv-loop
     μ-loop
     loop-holds
-    element-copy-out-task
-    task-requires
+    element-copy-out-names
+    names-requires
     element-copy-out-all
     add-c
     loop-less
