@@ -2,7 +2,7 @@
 -- places past its tasks and channels hold 0.
 use mathlib.Core.Path.{_≡_}
 use mathlib.Core.Bool.{Bool, true}
-use mathlib.Core.List.{List}
+use mathlib.Core.List.{List, []}
 use Prim.Native.Nat.{ℕ, zero, suc, _+_, _≤_, _<_}
 use lib.Dec.{eqb}
 use lib.IntN.{ℤ, pos, natAbs}
@@ -52,6 +52,21 @@ noJob = record {
   to = replicate 32 0;
   channels = 0;
 }
+
+-- the job as lines 7 to 9 read it, by the columns that they read; and by its channels alone
+abbrev pub jobBy : List ℕ → List ℤ → ℕ → List ℕ → List ℕ → ℕ → Job
+jobBy kinds b tasks from to channels = record {
+  kinds = kinds;
+  a = [];
+  b = b;
+  tasks = tasks;
+  from = from;
+  to = to;
+  channels = channels;
+}
+
+abbrev pub linked : List ℕ → List ℕ → ℕ → Job
+linked from to channels = jobBy [] [] 16 from to channels
 
 -- ---- reading it
 abbrev pub kindOf : Job → ℕ → ℕ

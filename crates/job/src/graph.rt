@@ -1,34 +1,27 @@
-// Rules 7 to 9 of the table of job answers, over the job by value: inputs, returning walks, worst counts.
+// Rules 7 to 9 of the table of job answers, over the job by value: inputs, returning walks, worst counts. What is called in a loop takes
+// numbers and lent columns, never the job; the columns have one lifetime, since the checker lends fields of one job at one only.
 ghost use mathlib.Core.Path.{_≡_};
-ghost use Prim.Native.Nat.{_<_};
+ghost use mathlib.Core.Bool.{true, cond};
+ghost use mathlib.Core.List.{[]};
+ghost use Prim.Native.Nat.{_<_, _≤_};
+ghost use lib.Dec.{eqb};
+ghost use lib.IntN.{natAbs, pos};
+ghost use Rattle.kinds.specs.Kinds.{within};
 ghost use Rattle.job.specs.Tests.{sweep};
-ghost use Rattle.job.specs.Jobs.{isSource, isInput, JobSized};
-ghost use Rattle.job.specs.Rules.{hasInput, badInput, fault7, struckBefore, strike, struckTasks, fault8, capped, broughtBy, cappedInflow, worstAnew, worstCounts, fault9};
+ghost use Rattle.job.specs.Jobs.{JobSized, jobBy, linked};
+ghost use Rattle.job.specs.Rules.{hasInput, badInput, fault7, strike, struckTasks, fault8};
+ghost use Rattle.job.specs.Rules.{capped, cappedInflow, worstAnew, worstCounts, fault9};
 use crate::Job;
+use crate::sends::names;
 
-fn is_source(job: Job, t: usize) -> bool
-    requires { ⌜ t < 16 ⌝ }
-    ensures { λ r. ⌜ r ≡ isSource job t ⌝ }
+fn has_input(to: &[u8; 32], channels: usize, t: usize) -> bool
+    requires { ⌜ channels ≤ 32 ⌝ }
+    ensures { λ r. ⌜ r ≡ hasInput (linked [] (now (to .entry)) channels) t ⌝ }
 {
-    job.kinds[t] == 0
-}
-
-fn is_input(job: Job, t: usize, c: usize) -> bool
-    requires { ⌜ c < 32 ⌝ }
-    ensures { λ r. ⌜ r ≡ isInput job t c ⌝ }
-{
-    job.to[c] as usize == t
-}
-
-fn has_input(job: Job, t: usize) -> bool
-    requires { ⌜ JobSized job ⌝ }
-    ensures { λ r. ⌜ r ≡ hasInput job t ⌝ }
-{
-    let n = job.channels;
     let mut found = false;
     let mut c: usize = 0;
-    while c < n {
-        found = found | is_input(job, t, c);
+    while c < channels {
+        found = found | names(to[c], t);
         c += 1;
     }
     found
@@ -48,47 +41,52 @@ pub fn has_fault_7(job: Job) -> bool
     ensures { λ r. ⌜ r ≡ fault7 job ⌝ }
 {
     let n = job.tasks;
+    let channels = job.channels;
     let mut found = false;
     let mut t: usize = 0;
     while t < n {
-        found = found | is_bad_input(is_source(job, t), has_input(job, t));
+        let input = has_input(&job.to, channels, t);
+        found = found | is_bad_input(job.kinds[t] == 0, input);
         t += 1;
     }
     found
 }
 
-// Whether channel `c` leads elsewhere, or from a struck task.
-fn is_struck_before(job: Job, struck: [bool; 16], t: usize, c: usize) -> bool
-    requires { ⌜ (c < job .channels) × JobSized job ⌝ }
-    ensures { λ r. ⌜ r ≡ struckBefore job struck t c ⌝ }
+// Whether the task was struck, or every channel that leads into it comes from a struck task.
+fn is_struck<'a>(
+    from: &'a [u8; 32],
+    to: &'a [u8; 32],
+    channels: usize,
+    struck: [bool; 16],
+    t: usize,
+) -> bool
+    requires { ⌜ (t < 16) × JobSized (linked (now from) (now to) channels) ⌝ }
+    ensures { λ r. ⌜ r ≡ strike (linked (now (from .entry)) (now (to .entry)) channels) struck t ⌝ }
 {
-    let from = job.from[c] as usize;
-    !is_input(job, t, c) | struck[from]
-}
-
-fn is_struck(job: Job, struck: [bool; 16], t: usize) -> bool
-    requires { ⌜ (t < 16) × JobSized job ⌝ }
-    ensures { λ r. ⌜ r ≡ strike job struck t ⌝ }
-{
-    let n = job.channels;
     let mut all = true;
     let mut c: usize = 0;
-    while c < n {
-        all = all & is_struck_before(job, struck, t, c);
+    while c < channels {
+        let f = from[c] as usize;
+        all = all & (!names(to[c], t) | struck[f]);
         c += 1;
     }
     struck[t] | all
 }
 
-fn strike_once(job: Job, struck: [bool; 16]) -> [bool; 16]
-    requires { ⌜ JobSized job ⌝ }
-    ensures { λ r. ⌜ r ≡ sweep (strike job) struck (job .tasks) ⌝ }
+fn strike_once<'a>(
+    from: &'a [u8; 32],
+    to: &'a [u8; 32],
+    channels: usize,
+    tasks: usize,
+    struck: [bool; 16],
+) -> [bool; 16]
+    requires { ⌜ (tasks ≤ 16) × JobSized (linked (now from) (now to) channels) ⌝ }
+    ensures { λ r. ⌜ r ≡ sweep (strike (linked (now (from .entry)) (now (to .entry)) channels)) struck tasks ⌝ }
 {
-    let n = job.tasks;
     let mut next = struck;
     let mut t: usize = 0;
-    while t < n {
-        next[t] = is_struck(job, next, t);
+    while t < tasks {
+        next[t] = is_struck(from, to, channels, next, t);
         t += 1;
     }
     next
@@ -100,10 +98,11 @@ fn struck_tasks(job: Job) -> [bool; 16]
     ensures { λ r. ⌜ r ≡ struckTasks job ⌝ }
 {
     let n = job.tasks;
+    let channels = job.channels;
     let mut struck = [false; 16];
     let mut round: usize = 0;
     while round < n {
-        let next = strike_once(job, struck);
+        let next = strike_once(&job.from, &job.to, channels, n, struck);
         struck = next;
         round += 1;
     }
@@ -135,51 +134,65 @@ fn capped_at(x: u64) -> u32
     x as u32
 }
 
-// What channel `c` brings to task `t`.
-fn brought(job: Job, worst: [u32; 16], t: usize, c: usize) -> u32
-    requires { ⌜ (c < job .channels) × JobSized job ⌝ }
-    ensures { λ r. ⌜ r ≡ broughtBy job worst t c ⌝ }
+// What a channel brings to a task, of its from-task's count: all of it, or nothing where it leads elsewhere.
+fn brought(leads: bool, count: u32) -> u32
+    ensures { λ r. ⌜ r ≡ cond leads count 0 ⌝ }
 {
-    if is_input(job, t, c) {
-        let from = job.from[c] as usize;
-        return worst[from];
+    if leads {
+        return count;
     }
     0
 }
 
-fn inflow_of(job: Job, worst: [u32; 16], t: usize) -> u32
-    requires { ⌜ JobSized job ⌝ }
-    ensures { λ r. ⌜ r ≡ cappedInflow job worst t (job .channels) ⌝ }
+fn inflow_of<'a>(
+    from: &'a [u8; 32],
+    to: &'a [u8; 32],
+    channels: usize,
+    worst: [u32; 16],
+    t: usize,
+) -> u32
+    requires { ⌜ JobSized (linked (now from) (now to) channels) ⌝ }
+    ensures { λ r. ⌜ r ≡ cappedInflow (linked (now (from .entry)) (now (to .entry)) channels) worst t channels ⌝ }
 {
-    let n = job.channels;
     let mut sum: u32 = 0;
     let mut c: usize = 0;
-    while c < n {
-        sum = capped_at(sum as u64 + brought(job, worst, t, c) as u64);
+    while c < channels {
+        let f = from[c] as usize;
+        sum = capped_at(sum as u64 + brought(names(to[c], t), worst[f]) as u64);
         c += 1;
     }
     sum
 }
 
-fn worst_of(job: Job, worst: [u32; 16], t: usize) -> u32
-    requires { ⌜ (t < job .tasks) × JobSized job ⌝ }
-    ensures { λ r. ⌜ r ≡ worstAnew job worst t ⌝ }
+fn worst_of(kind: u8, b: i32, inflow: u32) -> u32
+    requires { ⌜ (kind ≡ 0 → within (pos 0) b (pos 4096) ≡ true) ⌝ }
+    ensures { λ r. ⌜ r ≡ cond (eqb kind 0) (natAbs b) inflow ⌝ }
 {
-    if is_source(job, t) {
-        return job.b[t] as u32;
+    if kind == 0 {
+        return b as u32;
     }
-    inflow_of(job, worst, t)
+    inflow
 }
 
-fn worst_once(job: Job, worst: [u32; 16]) -> [u32; 16]
-    requires { ⌜ JobSized job ⌝ }
-    ensures { λ r. ⌜ r ≡ sweep (worstAnew job) worst (job .tasks) ⌝ }
+fn worst_once<'a>(
+    kinds: &'a [u8; 16],
+    b: &'a [i32; 16],
+    tasks: usize,
+    from: &'a [u8; 32],
+    to: &'a [u8; 32],
+    channels: usize,
+    worst: [u32; 16],
+) -> [u32; 16]
+    requires { ⌜ JobSized (jobBy (now kinds) (now b) tasks (now from) (now to) channels) ⌝ }
+    ensures { λ r.
+        ⌜ r ≡ sweep (worstAnew (jobBy (now (kinds .entry)) (now (b .entry)) tasks (now (from .entry)) (now (to .entry)) channels))
+        worst tasks ⌝ }
 {
-    let n = job.tasks;
     let mut next = worst;
     let mut t: usize = 0;
-    while t < n {
-        next[t] = worst_of(job, next, t);
+    while t < tasks {
+        let inflow = inflow_of(from, to, channels, next, t);
+        next[t] = worst_of(kinds[t], b[t], inflow);
         t += 1;
     }
     next
@@ -190,10 +203,11 @@ fn worst_counts(job: Job) -> [u32; 16]
     ensures { λ r. ⌜ r ≡ worstCounts job ⌝ }
 {
     let n = job.tasks;
+    let channels = job.channels;
     let mut worst = [0u32; 16];
     let mut round: usize = 0;
     while round < n {
-        let next = worst_once(job, worst);
+        let next = worst_once(&job.kinds, &job.b, n, &job.from, &job.to, channels, worst);
         worst = next;
         round += 1;
     }

@@ -2,29 +2,30 @@
 use borrow.Author.Needs.{needs}
 use native.Mathlib.Omega.{arith}
 use Prim.Native.Nat.{_≤_, _-_}
-use mathlib.Core.Path.{_≡_, ap, ap₂, _∙_}
+use mathlib.Core.Path.{_≡_, ap, _∙_}
 use Rattle.job.specs.Tests.{some}
 use Rattle.job.specs.Jobs.{isSource}
 use Rattle.job.specs.Rules.{hasInput, badInput, fault7}
 use Rattle.job.proofs.Tests.{some-more}
+use Rattle.job.proofs.Linked.{input-linked}
 use Rattle.job.proofs.graph.has_fault_7.Statement.{statement}
 use Rattle.job.proofs.graph.has_fault_7.Tie as tie
 
 abbrev Inv-loop : tie.InvT-loop
-Inv-loop job n found₀ t₀ found t = (t ≤ n) × (found ≡ some (λ k. badInput (isSource job k) (hasInput job k)) t)
+Inv-loop job n channels found₀ t₀ found t = (t ≤ n) × (found ≡ some (λ k. badInput (isSource job k) (hasInput job k)) t)
 
 abbrev μ-loop : tie.MeasureT-loop
-μ-loop job n found₀ t₀ found t = n - t
+μ-loop job n channels found₀ t₀ found t = n - t
 
 loop-holds : tie.Need-loop-holds Inv-loop μ-loop
 unfolding some
 loop-holds c = search needs
 
-is-source-requires : tie.Need-is-source-requires Inv-loop μ-loop
-is-source-requires c κs = omega (arith, c .before .before .pre .few-tasks)
-
 has-input-requires : tie.Need-has-input-requires Inv-loop μ-loop
-has-input-requires c κs = search needs
+has-input-requires c κs = c .before .before .before .before .pre .few-channels
+
+element-copy-out-is-bad-input : tie.Need-element-copy-out-is-bad-input Inv-loop μ-loop
+element-copy-out-is-bad-input c = omega (arith, c .before .before .before .before .before .pre .few-tasks)
 
 is-bad-input-requires : tie.Need-is-bad-input-requires Inv-loop μ-loop
 is-bad-input-requires c κs = search needs
@@ -37,7 +38,10 @@ loop-less c = search needs
 
 loop-again : tie.Need-loop-again Inv-loop μ-loop
 loop-again c =
-    (search needs, some-more _ _ (c .before .before .before .before .loop .inv .1) (c .is-bad-input .ensures ∙ ap₂ badInput (c .before .before .is-source .ensures) (c .before .has-input .ensures)))
+    let s = c .before .before .before .before .before .before in
+    let job = s .before .args .t1 in
+    let input = c .before .before .has-input .ensures ∙ input-linked job (s .loop .t) in
+    (search needs, some-more _ _ (s .loop .inv .1) (c .is-bad-input .ensures ∙ ap (badInput (isSource job (s .loop .t))) input))
 
 returns : tie.Need-returns Inv-loop μ-loop
 unfolding fault7
@@ -50,8 +54,8 @@ has-fault-7-spec =
     Inv-loop
     μ-loop
     loop-holds
-    is-source-requires
     has-input-requires
+    element-copy-out-is-bad-input
     is-bad-input-requires
     add-t
     loop-less

@@ -2,28 +2,29 @@
 use borrow.Author.Needs.{needs}
 use native.Mathlib.Omega.{arith}
 use Prim.Native.Nat.{_≤_, _-_}
-use mathlib.Core.Path.{_≡_, ap, ap₂, _∙_}
+use mathlib.Core.Path.{_≡_, ap, _∙_}
 use Rattle.job.specs.Tests.{sweep}
+use Rattle.job.specs.Jobs.{linked}
 use Rattle.job.specs.Rules.{strike}
 use Rattle.job.proofs.Tests.{sweep-more}
 use Rattle.job.proofs.graph.strike_once.Statement.{statement}
 use Rattle.job.proofs.graph.strike_once.Tie as tie
 
 abbrev Inv-loop : tie.InvT-loop
-Inv-loop job n next₀ t₀ next t = (t ≤ n) × (next ≡ sweep (strike job) next₀ t)
+Inv-loop from to channels tasks next₀ t₀ next t = (t ≤ tasks) × (next ≡ sweep (strike (linked from to channels)) next₀ t)
 
 abbrev μ-loop : tie.MeasureT-loop
-μ-loop job n next₀ t₀ next t = n - t
+μ-loop from to channels tasks next₀ t₀ next t = tasks - t
 
 loop-holds : tie.Need-loop-holds Inv-loop μ-loop
 unfolding sweep
 loop-holds c = search needs
 
 is-struck-requires : tie.Need-is-struck-requires Inv-loop μ-loop
-is-struck-requires c κs = (omega (arith, c .before .before .pre .few-tasks), c .before .before .pre)
+is-struck-requires c κs = (omega (arith, c .before .before .pre .0), c .before .before .pre .1)
 
 array-write-next : tie.Need-array-write-next Inv-loop μ-loop
-array-write-next c = omega (arith, c .before .before .before .pre .few-tasks)
+array-write-next c = omega (arith, c .before .before .before .pre .0)
 
 add-t : tie.Need-add-t Inv-loop μ-loop
 add-t c = search needs
