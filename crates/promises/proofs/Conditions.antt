@@ -1,12 +1,13 @@
--- The conditions of step/specs/Handlers.antt and the tests of the step rules say the same, on a run that fits; and what a delivery finds at
--- the head.
+-- The conditions of step/specs/Handlers.antt and the tests of the step rules say the same, on a run that fits; what a delivery finds at
+-- the head; and when a call is admitted.
 use mathlib.Core.Path.{_≡_, refl, sym, ap, _∙_}
-use mathlib.Core.Bool.{Bool, true, false, not, _&&_, _||_, true≢false}
+use mathlib.Core.Bool.{Bool, true, false, cond, not, _&&_, _||_, true≢false}
 use mathlib.Core.List.{List, [], _∷_}
+use mathlib.Core.Logic.{_↔_}
 use Prim.Native.Nat.{ℕ, _+_, _-_, _<_, _≤_}
 use native.Mathlib.Omega.{arith}
-use borrow.Author.Tests.{eqb-true, eqb-false, eq-eqb, ne-eqb, lt-ltb, le-ltb, le-leb, lt-leb, leb-true, leb-false}
-use lib.Dec.{eqb, leb}
+use borrow.Author.Tests.{eqb-true, eqb-false, eq-eqb, ne-eqb, lt-ltb, le-ltb, le-leb, lt-leb, leb-true}
+use lib.Dec.{eqb}
 use lib.IntN.{ℤ}
 use lib.ListN.{length, getD, set}
 use lib.Seq.{length-take-le, getD-set-same, getD-set-other}
@@ -14,19 +15,25 @@ use Rattle.channel.specs.declared.Cargo.{Cargo}
 use Rattle.channel.specs.declared.Channel.{Channel}
 use Rattle.channel.specs.Channels.{held, barrier, withoutHead}
 use Rattle.channel.proofs.Queues.{taken-0, taken-13, taken-holds}
+use Rattle.job.specs.declared.Checked.{Checked}
 use Rattle.job.specs.declared.Job.{Job}
-use Rattle.job.specs.Jobs.{JobSized, toOf, fromOf, isSource, isInput, isOutput}
+use Rattle.job.specs.Columns.{Columns}
+use Rattle.job.specs.Jobs.{JobSized, jobOf, toOf, fromOf, isInput, isOutput}
+use Rattle.job.specs.Rules.{jobAnswer}
+use Rattle.job.proofs.Fits.{accepted-fits}
 use Rattle.job.proofs.Tests.{some-one, one-some, every-all, all-every}
 use Rattle.job.proofs.Bools.{both-true}
 use Rattle.run.specs.declared.Run.{Run}
 use Rattle.run.specs.Runs.{noChannel}
-use Rattle.run.specs.Fit.{Fits, channelAt, flagAt}
-use Rattle.run.proofs.Clauses.{and-of}
-use Rattle.step.specs.Outputs.{isFull, someFull, allMarked, allStored}
+use Rattle.run.specs.Fit.{Fits, runFits, channelAt, flagAt}
+use Rattle.run.proofs.Clauses.{and-of, fits-exact}
+use Rattle.step.specs.Outputs.{isFull, someFull, allMarked}
 use Rattle.step.specs.Algorithm.{answered}
 use Rattle.step.specs.Step.{withCargo, delivered, isNoSource, sourceRead, barrierSent, begun, cutOff, stepped}
 use Rattle.step.proofs.Sources.{opened, given, not-given, source-is}
-use Rattle.step.specs.Handlers.{Sized, Head, Source, AllStored, Open, Full, Completes}
+use Rattle.step.specs.Handlers.{Sized, Head, Source, Open, Full, Completes}
+use Rattle.station.specs.Entries.{entry}
+use Rattle.station.proofs.Admission.{check-answer, refused-job, admitted-fits, admitted-16}
 
 -- a test that does not pass where the condition does not hold
 pub fails : {P : Type 0} (b : Bool) → (b ≡ true → P) → (P → ⊥) → b ≡ false
@@ -178,3 +185,22 @@ module _ (job : Job) (c v : List ℤ) (run : Run) where
         ne-eqb n 64 (λ e. omega arith),
         ne-eqb n 65 (λ e. omega arith),
       )
+
+-- ---- 1 to 9, then 16: a call is admitted exactly on an accepted job and a run that fits
+module _ (J : Columns) where
+  pub entry-job : (run : Run) → (jobAnswer J ≡ 0 → ⊥) → entry J run ≡ jobAnswer J
+  entry-job run ne = ap (λ (x : Checked). x .answer) (sym (refused-job J run ne)) ∙ check-answer J
+
+  module _ (run : Run) (z : jobAnswer J ≡ 0) where
+    entry-by : (b : Bool) → runFits (jobOf J) run ≡ b → entry J run ≡ cond b 0 16
+    entry-by true e = ap (λ (x : Checked). x .answer) (sym (admitted-fits J run z e))
+    entry-by false e = ap (λ (x : Checked). x .answer) (sym (admitted-16 J run z e))
+
+    exactly : (runFits (jobOf J) run ≡ true) ↔ Fits (jobOf J) run
+    exactly = fits-exact (jobOf J) (accepted-fits J z .sends .sized) run
+
+    pub entry-fits : Fits (jobOf J) run → entry J run ≡ 0
+    entry-fits F = entry-by true (exactly .1 F)
+
+    pub entry-misfits : (Fits (jobOf J) run → ⊥) → entry J run ≡ 16
+    entry-misfits n = entry-by false (fails (runFits (jobOf J) run) (exactly .0) n)

@@ -32,10 +32,11 @@ use Rattle.step.specs.Algorithm.{answered, completed, storedBy, barrierReceived
 use Rattle.step.specs.Step.{withCargo, withTaken, delivered}
 use Rattle.step.proofs.Sources.{given}
 use Rattle.promises.proofs.Reading.{itemOf, itemsOf, sourceOf, source-is, readRun, readOut, Sized, endOf, end-is, readJob}
-use Rattle.promises.proofs.Held.{at-set, head-items, Queues, popped, pop-items}
-use Rattle.promises.proofs.Sizes.{wide, with-channels, with-marked, rest-wide, unmarked-long}
+use Rattle.promises.proofs.Queued.{popped, rest-wide, fewer}
+use Rattle.promises.proofs.Held.{at-set, head-items, Queues, pop-items}
+use Rattle.promises.proofs.Sizes.{wide, with-channels, with-marked, unmarked-long}
 use Rattle.promises.proofs.Asked.{less-not, room-is, marked-is, unmarked-at}
-use Rattle.promises.proofs.Moved.{queues, fewer, popped-queues, roomy, flagged, deliver-is, mark-is, store-is, completed-is}
+use Rattle.promises.proofs.Moved.{queues, popped-queues, roomy, flagged, deliver-is, mark-is, store-is, completed-is}
 
 module _ (job : Job) (cylinders values : List ℤ) (JF : JobFits job (length cylinders)) (run : Run) (F : Fits job run) (S : Sized run) where
   abbrev J : LawJob

@@ -36,7 +36,8 @@ use Rattle.station.specs.Entries.{stepOn, drainOn}
 use Rattle.promises.specs.Grown.{afterSteps, grown, overSteps, wholeParts}
 use Rattle.promises.specs.Promises.{NothingLeft, DrainEnds}
 use Rattle.promises.proofs.Reading.{partOf, no-part}
-use Rattle.promises.proofs.Grows.{steppedIn, lowestIn, drainedIn, theJob, lawJob, atRun, Goes, on-step, on-drain, goes-stepped}
+use Rattle.promises.proofs.InOrder.{steppedIn}
+use Rattle.promises.proofs.Grows.{lowestIn, drainedIn, theJob, lawJob, atRun, Goes, on-step, on-drain, goes-stepped}
 use Rattle.promises.proofs.Grows.{goes-grown}
 use Rattle.promises.proofs.Evaluated.{part-long}
 use Rattle.promises.proofs.Counted.{directed-is, law-accepted}

@@ -2,14 +2,12 @@
 -- and a run after steps is read as the run of `laws` after the same steps (`exec-at`); whatever is counted over steps is counted there
 -- (`counts-at`).
 use mathlib.Core.Path.{_≡_, refl, sym, ap, ap₂, subst, _∙_}
-use mathlib.Core.Bool.{Bool, true, false, cond, false≢true}
-use mathlib.Core.List.{List, [], _∷_, _++_}
-use Prim.Native.Nat.{ℕ, zero, suc, _+_, _≤_}
+use mathlib.Core.Bool.{Bool, false, cond, false≢true}
+use mathlib.Core.List.{List, [], _∷_}
+use Prim.Native.Nat.{ℕ, _+_}
 use native.Mathlib.Omega.{arith}
 use lib.Dec.{eqb}
-use lib.ListN.{length, getD, take, replicate}
-use lib.Seq.{take-suc, take-length}
-use mir.Val.{boolByte}
+use lib.ListN.{length, getD, replicate}
 use Rattle.laws.specs.Run.{Run as LawRun, Job as LawJob, freshS}
 use Rattle.laws.specs.Totals.{totMon}
 use Rattle.laws.specs.Base.{outOf}
@@ -29,15 +27,15 @@ use Rattle.run.specs.Runs.{freshRun}
 use Rattle.run.specs.Fit.{Fits, TotalsFit}
 use Rattle.run.proofs.Clauses.{fits-exact}
 use Rattle.step.specs.declared.Stepped.{Stepped}
-use Rattle.step.specs.Step.{stepped}
 use Rattle.step.proofs.Fitting.{replicate-has}
 use Rattle.drain.specs.declared.Listed.{Listed}
-use Rattle.drain.specs.Lists.{isDone, listedTo}
+use Rattle.drain.specs.Lists.{isDone}
 use Rattle.drain.specs.declared.Drained.{Drained}
 use Rattle.drain.specs.Drains.{possible, lowest, drainedOf}
 use Rattle.station.specs.Entries.{stepOn, stepsOn, drainOn}
 use Rattle.station.proofs.Admission.{admitted-fits, step-admitted, steps-admitted, drain-admitted}
 use Rattle.promises.specs.Grown.{afterSteps, grown, overSteps}
+use Rattle.promises.proofs.InOrder.{steppedIn, listedIn, counts-all, in-order, done-in-order}
 use Rattle.promises.proofs.Reading.{readJob, readOut}
 use Rattle.promises.proofs.Along.{same-at, empty-at, at, fresh-at, Along, along-fresh, along-step, out-is, goes, said}
 use Rattle.promises.proofs.Noted.{wasDone, wasEnded}
@@ -64,17 +62,7 @@ fresh-fits job = record {
     zero-at : (t : ℕ) → TotalsFit job t (getD (replicate 16 noTotals) t noTotals)
     zero-at t = replicate-has (TotalsFit job t) 16 noTotals noTotals t (zeros-fit job t) (zeros-fit job t)
 
-byte-is : (b : Bool) → boolByte b ≡ cond b 1 0
-byte-is true = refl
-byte-is false = refl
-
--- the step, the list and the drain of a job given by its columns, without the entry's checks
-abbrev pub steppedIn : Columns → Run → ℕ → Stepped
-steppedIn J run k = stepped (jobOf J) (J .cylinders) (J .values) run k
-
-abbrev listedIn : Columns → Run → List ℕ → ℕ → Listed
-listedIn J run ks k = listedTo (jobOf J) (J .cylinders) (J .values) run ks k
-
+-- the search and the drain of a job given by its columns, without the entry's checks
 abbrev pub possibleIn : Columns → Run → ℕ → Bool
 possibleIn J run k = possible (jobOf J) (J .cylinders) (J .values) run k
 
@@ -182,65 +170,15 @@ module _ (J : Columns) (ok : jobAnswer J ≡ 0) where
       (counts-at f g F none more same (stepOn J run k .run) ks (goes-step run A k) ∙ ap (F ks) (sym (after-at run A k)))
       ∙ sym (more (atRun run) k ks)
 
-  pub after-append : (run : Run) (ks more : List ℕ) → afterSteps J run (ks ++ more) ≡ afterSteps J (afterSteps J run ks) more
-  unfolding afterSteps
-  after-append run [] more = refl
-  after-append run (k ∷ ks) more = after-append (stepOn J run k .run) ks more
-
-  pub over-append : (f : Run → ℕ → ℕ) (run : Run) (ks more : List ℕ)
-      → overSteps J f run (ks ++ more) ≡ overSteps J f run ks + overSteps J f (afterSteps J run ks) more
-  unfolding overSteps afterSteps
-  over-append f run [] more = omega arith
-  over-append f run (k ∷ ks) more =
-      let a = over-append f (stepOn J run k .run) ks more in
-      omega arith
-
   -- ---- a list of steps
   module _ (run : Run) (A : Goes run) (ks : List ℕ) where
-    next-is : (k : ℕ) → listedIn J run ks k .run ≡ afterSteps J run (take k ks)
-        → stepOn J (afterSteps J run (take k ks)) (getD ks k 0)
-        ≡ steppedIn J (listedIn J run ks k .run) (getD ks k 0)
-    next-is k e =
-        on-step (afterSteps J run (take k ks)) (goes-steps run (take k ks) A .fits) (getD ks k 0)
-        ∙ ap (λ x. steppedIn J x (getD ks k 0)) (sym e)
-
-    list-run : (k : ℕ) → k ≤ length ks → listedIn J run ks k .run ≡ afterSteps J run (take k ks)
-    unfolding listedTo afterSteps
-    list-run zero l = refl
-    list-run (suc k) l =
-        ap (λ (s : Stepped). s .run) (sym (next-is k (list-run k (omega arith))))
-        ∙ sym (after-append run (take k ks) (getD ks k 0 ∷ []))
-        ∙ ap (afterSteps J run) (sym (take-suc ks k 0 (omega arith)))
-
-    list-done : (k : ℕ) → k ≤ length ks
-        → listedIn J run ks k .done ≡ overSteps J (λ run k. 1) run (take k ks)
-    unfolding listedTo overSteps
-    list-done zero l = refl
-    list-done (suc k) l =
-        let one : Run → ℕ → ℕ = λ run k. 1 in
-        let s = stepOn J (afterSteps J run (take k ks)) (getD ks k 0) in
-        let a : boolByte (isDone (steppedIn J (listedIn J run ks k .run)
-        (getD ks k 0) .answer)) ≡ cond (isDone (s .answer)) 1 0 =
-        ap (λ (s : Stepped). boolByte (isDone (s .answer))) (sym (next-is k (list-run k (omega arith)))) ∙ byte-is (isDone (s .answer)) in
-        let b : overSteps J one run (take (suc k) ks)
-        ≡ overSteps J one run (take k ks) + overSteps J one (afterSteps J run (take k ks)) (getD ks k 0 ∷ []) =
-        ap (overSteps J one run) (take-suc ks k 0 (omega arith)) ∙ over-append one run (take k ks) (getD ks k 0 ∷ []) in
-        omega (arith, a, b, list-done k (omega arith))
-
-    list-0 : (k : ℕ) → listedIn J run ks k .answer ≡ 0
-    unfolding listedTo
-    list-0 zero = refl
-    list-0 (suc k) = refl
-
     pub steps-run : stepsOn J run ks .run ≡ afterSteps J run ks
-    steps-run =
-        ap (λ (l : Listed). l .run) (on-list run (A .fits) ks) ∙ list-run (length ks) (omega arith)
-        ∙ ap (afterSteps J run) (take-length ks)
+    steps-run = ap (λ (l : Listed). l .run) (on-list run (A .fits) ks) ∙ in-order J theJob records-fine on-step run (A .fits) ks
 
     pub steps-done : stepsOn J run ks .done ≡ overSteps J (λ run k. 1) run ks
-    steps-done =
-        ap (λ (l : Listed). l .done) (on-list run (A .fits) ks) ∙ list-done (length ks) (omega arith)
-        ∙ ap (overSteps J (λ run k. 1) run) (take-length ks)
+    steps-done = ap (λ (l : Listed). l .done) (on-list run (A .fits) ks) ∙ done-in-order J theJob records-fine on-step run (A .fits) ks
 
     pub steps-answer : stepsOn J run ks .answer ≡ 0
-    steps-answer = ap (λ (l : Listed). l .answer) (on-list run (A .fits) ks) ∙ list-0 (length ks)
+    steps-answer =
+        ap (λ (l : Listed). l .answer) (on-list run (A .fits) ks)
+        ∙ counts-all (jobOf J) (J .cylinders) (J .values) run ks (length ks) .0

@@ -1,10 +1,10 @@
 -- What channels hold, read as items: what is put on every output stands behind what a channel held, and a head that is taken is gone.
 use mathlib.Core.Path.{_≡_, refl, sym, ap, _∙_}
 use mathlib.Core.Bool.{Bool, true, false, cond}
-use mathlib.Core.List.{List, [], _∷_, _++_, append-nil}
+use mathlib.Core.List.{List, [], _∷_, _++_, map, append-nil}
 use Prim.Native.Nat.{ℕ, _<_, _≤_}
 use native.Mathlib.Omega.{arith}
-use borrow.Author.Tests.{eqb-true, eqb-false, ltb-true, ltb-false, ne-eqb}
+use borrow.Author.Tests.{eqb-true, eqb-false, ltb-true, ltb-false, eq-eqb}
 use lib.Dec.{eqb, ltb}
 use lib.ListN.{length, getD, set}
 use lib.Seq.{length-take-le, getD-set-same, getD-set-other}
@@ -12,20 +12,19 @@ use Rattle.laws.specs.Received.{keep}
 use Rattle.laws.specs.Items.{Item, barrier, asItems, tl}
 use Rattle.laws.proofs.Below.{eqb-sym}
 use Rattle.tally.specs.declared.Record.{Record}
-use Rattle.kinds.specs.declared.Sending.{Sending}
-use Rattle.kinds.specs.declared.Sending.the-variants.{Nothing, One}
 use Rattle.channel.specs.declared.Cargo.{Cargo}
 use Rattle.channel.specs.declared.Cargo.the-variants.{Barrier, Record as Recorded}
 use Rattle.channel.specs.declared.Channel.{Channel}
 use Rattle.channel.specs.declared.Item.{Item as ChannelItem}
 use Rattle.channel.specs.Channels.{held, withoutHead}
-use Rattle.channel.proofs.Queues.{added-holds, taken-holds}
+use Rattle.channel.proofs.Queues.{taken-holds}
 use Rattle.job.specs.declared.Job.{Job}
-use Rattle.job.specs.Jobs.{fromOf, isOutput, placeOf}
-use Rattle.job.specs.Graph.{asList, sentBy, sentOver, overChannel}
+use Rattle.job.specs.Jobs.{fromOf, isOutput}
+use Rattle.job.specs.Graph.{overChannel}
 use Rattle.run.specs.Runs.{noChannel}
-use Rattle.step.specs.Outputs.{put, putSent, carried, putOn, putAll}
-use Rattle.step.proofs.Places.{place-at, place-past}
+use Rattle.step.specs.Outputs.{putAll}
+use Rattle.promises.proofs.Queued.{asItem, Wide, popped, outputs-hold, others-same}
+use Rattle.promises.proofs.Queued.{itemsFor as heldFor}
 use Rattle.promises.proofs.Reading.{itemOf, itemsOf, endOf, end-is, end-out}
 
 -- each place of a list after a store
@@ -53,14 +52,6 @@ module _ (ch : Channel) (wide : length (ch .items) ≡ 8) where
   pub held-length : ch .count ≤ 8 → length (itemsOf (held ch)) ≡ ch .count
   held-length h = items-length (held ch) ∙ length-take-le (ch .count) (ch .items) (omega arith)
 
-  put-items : (cargo : Cargo) → ch .count < 8 → itemsOf (held (put ch cargo)) ≡ itemsOf (held ch) ++ itemOf cargo ∷ []
-  put-items cargo h =
-      ap itemsOf (added-holds ch wide (record { cargo = cargo }) h) ∙ items-append (held ch) (record { cargo = cargo } ∷ [])
-
-  sent-items : (s : Sending) → ch .count < 8 → itemsOf (held (putSent ch s)) ≡ itemsOf (held ch) ++ asItems (asList s)
-  sent-items Nothing h = sym (append-nil (itemsOf (held ch)))
-  sent-items (One r) h = put-items (Recorded r) h
-
   pub head-items : 0 < ch .count → ch .count ≤ 8
       → itemsOf (held ch) ≡ itemOf (withoutHead ch .item .cargo) ∷ itemsOf (held (withoutHead ch .channel))
   head-items p h = ap itemsOf (taken-holds ch wide p h)
@@ -81,50 +72,42 @@ itemsFor job Barrier c = barrier ∷ []
 itemsFor job (Recorded r) c = asItems (overChannel job c r)
 
 module _ (job : Job) (t : ℕ) where
-  carried-items : (cargo : Cargo) (c : ℕ) (ch : Channel) → length (ch .items) ≡ 8 → ch .count < 8 → fromOf job c ≡ t
-      → itemsOf (held (carried job t (placeOf job t c) (placeOf job t (job .channels)) cargo ch))
-      ≡ itemsOf (held ch) ++ itemsFor job cargo c
-  unfolding sentOver
-  carried-items Barrier c ch wide h e = put-items ch wide Barrier h
-  carried-items (Recorded r) c ch wide h e =
-      sent-items ch wide (sentBy job t (placeOf job t c) (placeOf job t (job .channels)) r) h
-      ∙ ap (λ u. itemsOf (held ch) ++ asItems (asList (sentBy job u (placeOf job u c) (placeOf job u (job .channels)) r))) (sym e)
+  sent-items : (rs : List Record) → itemsOf (map asItem rs) ≡ asItems rs
+  sent-items [] = refl
+  sent-items (r ∷ rs) = ap (λ l. itemOf (Recorded r) ∷ l) (sent-items rs)
 
-  put-on-items : (cargo : Cargo) (c : ℕ) (ch : Channel) → length (ch .items) ≡ 8 → (isOutput job t c ≡ true → ch .count < 8)
-      → itemsOf (held (putOn job t cargo c ch)) ≡ itemsOf (held ch) ++ keep (isOutput job t c) (itemsFor job cargo c)
-  unfolding putOn
-  put-on-items cargo c ch wide h = go (isOutput job t c) refl
+  items-for : (cargo : Cargo) (c : ℕ) → itemsOf (heldFor job cargo c) ≡ itemsFor job cargo c
+  items-for Barrier c = refl
+  items-for (Recorded r) c = sent-items (overChannel job c r)
+
+  inside : (c : ℕ) → t < job .tasks → endOf job (fromOf job) c ≡ t → c < job .channels
+  inside c lt e = go (ltb c (job .channels)) refl
     where
-      go : (b : Bool) → isOutput job t c ≡ b
-          → itemsOf (held (cond b (carried job t (placeOf job t c) (placeOf job t (job .channels)) cargo ch) ch))
-          ≡ itemsOf (held ch) ++ keep b (itemsFor job cargo c)
-      go true e = carried-items cargo c ch wide (h e) (eqb-true (fromOf job c) t e)
-      go false e = sym (append-nil (itemsOf (held ch)))
+      go : (b : Bool) → ltb c (job .channels) ≡ b → c < job .channels
+      go true q = ltb-true c (job .channels) q
+      go false q = absurd (omega (arith, end-out job (fromOf job) c (ltb-false c (job .channels) q)))
 
   -- "puts a barrier on every output", "is sent by the kind's rule": behind what each output held
   pub put-all-items : (cargo : Cargo) (l : List Channel) → Queues l → job .channels ≤ 32 → t < job .tasks
       → ((c : ℕ) → c < job .channels → isOutput job t c ≡ true → getD l c noChannel .count < 8) → (c : ℕ)
       → chansOf (putAll job t cargo l) c ≡ chansOf l c ++ keep (eqb (endOf job (fromOf job) c) t) (itemsFor job cargo c)
-  unfolding putAll
-  put-all-items cargo l Q few lt room c = go (ltb c (job .channels)) refl
+  put-all-items cargo l Q few lt room c = go (eqb (endOf job (fromOf job) c) t) refl
     where
-      go : (b : Bool) → ltb c (job .channels) ≡ b
-          → chansOf (putAll job t cargo l) c ≡ chansOf l c ++ keep (eqb (endOf job (fromOf job) c) t) (itemsFor job cargo c)
-      go true e =
-          let lc : c < job .channels = ltb-true c (job .channels) e in
-          ap (λ ch. itemsOf (held ch)) (place-at noChannel (putOn job t cargo) l (job .channels) c lc (omega (arith, Q .long)))
-          ∙ put-on-items cargo c (getD l c noChannel) (Q .places c (omega arith)) (room c lc)
-          ∙ ap (λ u. chansOf l c ++ keep (eqb u t) (itemsFor job cargo c)) (sym (end-is job (fromOf job) c lc))
-      go false e =
-          let out : job .channels ≤ c = ltb-false c (job .channels) e in
-          ap (λ ch. itemsOf (held ch)) (place-past noChannel (putOn job t cargo) l (job .channels) c out)
-          ∙ sym (append-nil (chansOf l c))
-          ∙ ap (λ b. chansOf l c ++ keep b (itemsFor job cargo c))
-          (sym (ne-eqb (endOf job (fromOf job) c) t (λ q. omega (arith, end-out job (fromOf job) c out))))
+      wide : Wide l
+      wide = record { long = Q .long; places = Q .places }
 
--- the head of channel d taken
-abbrev pub popped : List Channel → ℕ → List Channel
-popped l d = set l d (withoutHead (getD l d noChannel) .channel)
+      go : (b : Bool) → eqb (endOf job (fromOf job) c) t ≡ b
+          → chansOf (putAll job t cargo l) c ≡ chansOf l c ++ keep b (itemsFor job cargo c)
+      go true e =
+          let at = eqb-true (endOf job (fromOf job) c) t e in
+          let lc : c < job .channels = inside c lt at in
+          let f : fromOf job c ≡ t = sym (end-is job (fromOf job) c lc) ∙ at in
+          ap itemsOf (outputs-hold job few t l wide cargo c lc f (room c lc (eq-eqb (fromOf job c) t f)))
+          ∙ items-append (held (getD l c noChannel)) (heldFor job cargo c) ∙ ap (λ x. chansOf l c ++ x) (items-for cargo c)
+      go false e =
+          ap (λ ch. itemsOf (held ch))
+          (others-same job few t l wide cargo c (λ lc f. eqb-false (endOf job (fromOf job) c) t e (end-is job (fromOf job) c lc ∙ f)))
+          ∙ sym (append-nil (chansOf l c))
 
 pub pop-items : (l : List Channel) → Queues l → (d : ℕ) → d < 32 → 0 < getD l d noChannel .count → (c : ℕ)
     → chansOf (popped l d) c ≡ cond (eqb d c) (tl (chansOf l c)) (chansOf l c)

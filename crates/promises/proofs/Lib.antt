@@ -4,7 +4,7 @@
 --     Held, Sizes, Asked, Moved, Deliver, Sourced   the parts of a step, read
 --     Bridge      the product's step, read, is the step of `laws` (`step-read`)
 --     Along       so a run goes the way of the run that it is read as (`goes`), from a fresh one on
---     Grows       calls on grown runs are admitted, lists are their steps, and what is counted is counted in `laws` (`counts-at`)
+--     Grows       calls on grown runs are admitted, and what is counted is counted in `laws` (`counts-at`)
 --     Evaluated   direct evaluation is that of `laws` (`direct-is`), and an accepted job is one of `laws` (`accepted`)
 --     Counted     the call `direct` at given counts (`directed-is`)
 --     Emptied     the drain's definition by itself (`by-turns`)
@@ -17,9 +17,11 @@
 --     Silenced    1 and 6: grown runs fit; 16, 17 and 19 are silent
 --     Promised    THE PROMISES of grown runs, in one place
 --     Watched     the worked station as the onlooker sees it, computed
---     Conditions  the conditions of demands 1 and 2, and the tests of the step rules
---     Demands1    8: every call's answers (`demand-1`)
---     Demands2    7: Algorithm 1's handlers (`demand-2`)
+--     Queued      the run's channels: a head taken, what is put on the outputs
+--     Conditions  the conditions of demands 1 and 2, the tests of the step rules, and when a call is admitted
+--     InOrder     a list of steps is its steps, one call after another
+--     Algorithm1  7: Algorithm 1's handlers (`demand-2`)
+--     AllCalls    8: every call's answers (`demand-1`)
 --     Computed    9: the single table (`single-table`)
 pub mod Reading
 pub mod Held
@@ -44,7 +46,9 @@ pub mod Sent
 pub mod Silenced
 pub mod Promised
 pub mod Watched
+pub mod Queued
 pub mod Conditions
-pub mod Demands1
-pub mod Demands2
+pub mod InOrder
+pub mod Algorithm1
+pub mod AllCalls
 pub mod Computed

@@ -35,22 +35,15 @@ use Rattle.run.specs.Fit.{channelAt, totalsAt, flagAt, Fits}
 use Rattle.step.specs.Outputs.{isFull, someFull, sourcesWait, putAll}
 use Rattle.step.specs.Algorithm.{answered, sealed, completed, storedBy, takenIn}
 use Rattle.step.specs.Step.{cutOff, lastOrNone}
-use Rattle.step.proofs.Fitting.{set-has, replicate-has}
+use Rattle.step.proofs.Fitting.{replicate-has}
 use Rattle.promises.proofs.Reading.{itemsOf, sourceOf, source-is, offsetIn, readRun, readOut, Sized, endOf, end-is, readJob}
-use Rattle.promises.proofs.Held.{set-at, at-set, Queues, chansOf, itemsFor, put-all-items, popped, pop-items}
-use Rattle.promises.proofs.Sizes.{rest-wide, taken-fewer}
+use Rattle.promises.proofs.Queued.{popped, rest-wide, fewer}
+use Rattle.promises.proofs.Held.{set-at, at-set, Queues, chansOf, itemsFor, put-all-items, pop-items}
 use Rattle.promises.proofs.Asked.{stored-is, emptied, counted-at, offset-more, offset-same, sources-wait}
 
 -- ---- channels
 pub queues : (job : Job) (run : Run) → Fits job run → Sized run → Queues (run .channels)
 queues job run F S = record { long = S .channels; places = S .items; few = λ c l. F .channels c l .room }
-
--- a head taken: no channel holds more than it did
-pub fewer : (l : List Channel) (d c n : ℕ) → getD l c noChannel .count ≤ n
-    → getD (popped l d) c noChannel .count ≤ n
-fewer l d c n h =
-    set-has (λ j (ch : Channel). getD l j noChannel .count ≤ n → ch .count ≤ n) l d _ noChannel c
-    (λ q. omega (arith, taken-fewer (getD l d noChannel))) (λ q. omega arith) (λ ne q. q) h
 
 pub popped-queues : (l : List Channel) (d : ℕ) → Queues l → Queues (popped l d)
 popped-queues l d Q =

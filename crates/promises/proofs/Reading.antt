@@ -1,16 +1,16 @@
 -- The product's job and run, read as a job and a run of `laws`: what a channel holds as items, totals as elements of the monoid of totals,
 -- a source's count as its offset. A channel that the job lacks has ends that are no task, so that it is nobody's input or output.
 use mathlib.Core.Path.{_≡_, refl, sym, ap, _∙_}
-use mathlib.Core.Bool.{Bool, true, false, cond, _&&_, false≢true}
+use mathlib.Core.Bool.{Bool, false, cond, _&&_, false≢true}
 use mathlib.Core.List.{List, [], _∷_}
-use Prim.Native.Nat.{ℕ, _+_, _<_, _≤_}
+use Prim.Native.Nat.{ℕ, _<_, _≤_}
 use native.Mathlib.Omega.{arith}
-use borrow.Author.Tests.{lt-ltb, le-ltb, ltb-true}
+use borrow.Author.Tests.{lt-ltb, le-ltb}
 use lib.Dec.{eqb, ltb}
 use lib.IntN.{ℤ, natAbs}
 use lib.ListN.{length}
 use Rattle.laws.specs.Received.{Graph}
-use Rattle.laws.specs.Acyclic.{Ranked, Measured}
+use Rattle.laws.specs.Acyclic.{Ranked}
 use Rattle.laws.specs.Totals.{totMon, one-total}
 use Rattle.laws.specs.Items.{Item, barrier, rec}
 use Rattle.laws.specs.Run.{Job as LawJob}

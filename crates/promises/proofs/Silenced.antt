@@ -25,8 +25,8 @@ use Rattle.station.specs.Entries.{stepOn, drainOn}
 use Rattle.promises.specs.Grown.{afterSteps, grown, stepsDone}
 use Rattle.promises.specs.Promises.{DrainSteps, GrownRun, Silent}
 use Rattle.promises.proofs.Reading.{readRun}
-use Rattle.promises.proofs.Grows.{steppedIn, lawJob, atRun, Goes, on-step, on-drain, out-at, goes-grown, after-append}
-use Rattle.promises.proofs.Grows.{over-append, steps-run, steps-done, steps-answer}
+use Rattle.promises.proofs.InOrder.{steppedIn, after-append, over-append}
+use Rattle.promises.proofs.Grows.{lawJob, atRun, Goes, on-step, on-drain, out-at, goes-grown, steps-run, steps-done, steps-answer}
 use Rattle.promises.proofs.Finished.{Path, drain-path, two-answers, not-19}
 use Rattle.promises.proofs.Counted.{law-accepted}
 
@@ -121,9 +121,9 @@ module _ (J : Columns) (ok : jobAnswer J ≡ 0) where
       record {
         numbers = p .list;
         early = p .early;
-        leads = sym (p .leads) ∙ sym (after-append J ok freshRun ks (p .list));
+        leads = sym (p .leads) ∙ sym (after-append J freshRun ks (p .list));
         many = omega (arith, p .many);
-        done = over-append J ok (λ run k. 1) freshRun ks (p .list) ∙ ap (λ n. stepsDone J ks + n) (p .done);
+        done = over-append J (λ run k. 1) freshRun ks (p .list) ∙ ap (λ n. stepsDone J ks + n) (p .done);
       }
 
   one-step : (run : Run) (k : ℕ) → stepOn J run k .run ≡ afterSteps J run (k ∷ [])
@@ -146,11 +146,11 @@ module _ (J : Columns) (ok : jobAnswer J ≡ 0) where
         step-not-16 = λ k e.
             never-16 (lawJob J ok) (atRun J ok (grown J ks)) k
             (refusal-at (grown J ks) G k 16 (λ z. omega (arith, z)) (λ z. omega (arith, z)) e);
-        step-grown = λ k. one-step (grown J ks) k ∙ sym (after-append J ok freshRun ks (k ∷ []));
+        step-grown = λ k. one-step (grown J ks) k ∙ sym (after-append J freshRun ks (k ∷ []));
         list-answer = steps-answer J ok (grown J ks) G;
-        list-grown = λ more. steps-run J ok (grown J ks) G more ∙ sym (after-append J ok freshRun ks more);
+        list-grown = λ more. steps-run J ok (grown J ks) G more ∙ sym (after-append J freshRun ks more);
         list-done = λ more.
-            ap (λ n. stepsDone J ks + n) (steps-done J ok (grown J ks) G more) ∙ sym (over-append J ok (λ run k. 1) freshRun ks more);
+            ap (λ n. stepsDone J ks + n) (steps-done J ok (grown J ks) G more) ∙ sym (over-append J (λ run k. 1) freshRun ks more);
         drain-not-16 = drain-not-16 ks;
         drain-grown = drain-steps ks;
       }

@@ -2,12 +2,12 @@
 -- (`stepped-sized`).
 use mathlib.Core.Path.{_≡_, ap, _∙_}
 use mathlib.Core.Bool.{Bool, true, false, not, _&&_}
-use mathlib.Core.List.{List, [], _∷_}
-use Prim.Native.Nat.{ℕ, zero, suc, _-_, _<_, _≤_}
+use mathlib.Core.List.{List}
+use Prim.Native.Nat.{ℕ, zero, suc, _-_, _<_}
 use native.Mathlib.Omega.{arith}
 use lib.Dec.{eqb, ltb, leb}
 use lib.IntN.{ℤ, natAbs}
-use lib.ListN.{length, getD, set, drop, replicate, length-set, length-append, length-drop, length-replicate, getD-replicate}
+use lib.ListN.{length, getD, set, replicate, length-set, length-replicate, getD-replicate}
 use Rattle.tally.specs.declared.Record.{Record}
 use Rattle.tally.specs.declared.Totals.{Totals}
 use Rattle.tally.specs.Totals.{noTotals}
@@ -17,8 +17,7 @@ use Rattle.channel.specs.declared.Cargo.{Cargo}
 use Rattle.channel.specs.declared.Cargo.the-variants.{Barrier, Record as Recorded}
 use Rattle.channel.specs.declared.Channel.{Channel}
 use Rattle.channel.specs.declared.Added.{Added}
-use Rattle.channel.specs.declared.Taken.{Taken}
-use Rattle.channel.specs.Channels.{barrier, emptyChannel, withItem, withoutHead}
+use Rattle.channel.specs.Channels.{emptyChannel, withItem, withoutHead}
 use Rattle.job.specs.declared.Job.{Job}
 use Rattle.job.specs.Jobs.{bOf, toOf, isOutput}
 use Rattle.job.specs.Graph.{sentBy}
@@ -32,17 +31,9 @@ use Rattle.step.specs.Step.{withCargo, withTaken, delivered, isNoSource, offset
 use Rattle.step.proofs.Places.{length-places}
 use Rattle.step.proofs.Fitting.{cond-has}
 use Rattle.promises.proofs.Reading.{Sized}
-use Rattle.promises.proofs.Held.{popped}
+use Rattle.promises.proofs.Queued.{set-keeps, Wide, rest-wide}
 
--- ---- a place that a list has, after a store and after a loop over its places
-set-keeps : {A : Type 0} (P : A → Type 0) (l : List A) (k : ℕ) (x d : A) (j : ℕ) → j < length l → (k < length l → P x) → P (getD l j d)
-    → P (getD (set l k x) j d)
-set-keeps P [] k x d j h p r = absurd (omega arith)
-set-keeps P (y ∷ l) zero x d zero h p r = p h
-set-keeps P (y ∷ l) zero x d (suc j) h p r = r
-set-keeps P (y ∷ l) (suc k) x d zero h p r = r
-set-keeps P (y ∷ l) (suc k) x d (suc j) h p r = set-keeps P l k x d j (omega arith) (λ q. p (omega arith)) r
-
+-- ---- a place that a list has, after a loop over its places
 places-keep : {A : Type 0} (P : A → Type 0) (d : A) (f : ℕ → A → A) (l : List A) (n : ℕ) → ((i : ℕ) (x : A) → P x → P (f i x))
     → ((i : ℕ) → i < length l → P (getD l i d)) → (i : ℕ) → i < length l → P (getD (eachPlace d f l n) i d)
 unfolding eachPlace
@@ -60,19 +51,6 @@ put-wide ch cargo w =
     (λ _. cond-has (λ (a : Added). length (a .channel .items) ≡ 8) (eqb (ch .count) 8) (λ _. w)
     (λ _. length-set (ch .items) (ch .count) (record { cargo = cargo }) ∙ w))
 
-pub taken-wide : (ch : Channel) → length (ch .items) ≡ 8 → length (withoutHead ch .channel .items) ≡ 8
-unfolding withoutHead
-taken-wide ch w =
-    cond-has (λ (a : Taken). length (a .channel .items) ≡ 8) (ltb 8 (ch .count)) (λ _. w)
-    (λ _. cond-has (λ (a : Taken). length (a .channel .items) ≡ 8) (eqb (ch .count) 0) (λ _. w)
-    (λ _. omega (arith, length-append (drop 1 (ch .items)) (barrier ∷ []), length-drop 1 (ch .items))))
-
-pub taken-fewer : (ch : Channel) → withoutHead ch .channel .count ≤ ch .count
-unfolding withoutHead
-taken-fewer ch =
-    cond-has (λ (a : Taken). a .channel .count ≤ ch .count) (ltb 8 (ch .count)) (λ _. omega arith)
-    (λ _. cond-has (λ (a : Taken). a .channel .count ≤ ch .count) (eqb (ch .count) 0) (λ _. omega arith) (λ _. omega arith))
-
 sent-wide : (ch : Channel) (s : Sending) → length (ch .items) ≡ 8 → length (putSent ch s .items) ≡ 8
 sent-wide ch Nothing w = w
 sent-wide ch (One r) w = put-wide ch (Recorded r) w
@@ -88,10 +66,6 @@ on-wide job t cargo c ch w =
     cond-has (λ (x : Channel). length (x .items) ≡ 8) (isOutput job t c) (λ _. carried-wide job t _ _ cargo ch w) (λ _. w)
 
 -- ---- 32 channels
-pub record Wide (l : List Channel) : Type 0 where
-  pub long : length l ≡ 32
-  pub places : (c : ℕ) → c < 32 → length (getD l c noChannel .items) ≡ 8
-
 put-all-wide : (job : Job) (t : ℕ) (cargo : Cargo) (l : List Channel) → Wide l → Wide (putAll job t cargo l)
 unfolding putAll
 put-all-wide job t cargo l w = record {
@@ -99,14 +73,6 @@ put-all-wide job t cargo l w = record {
   places = λ c h.
       places-keep (λ (x : Channel). length (x .items) ≡ 8) noChannel (putOn job t cargo) l (job .channels) (λ i x. on-wide job t cargo i x)
       (λ i q. w .places i (omega (arith, w .long))) c (omega (arith, w .long));
-}
-
-pub rest-wide : (l : List Channel) (c : ℕ) → Wide l → Wide (popped l c)
-rest-wide l c w = record {
-  long = length-set l c _ ∙ w .long;
-  places = λ d h.
-      set-keeps (λ (x : Channel). length (x .items) ≡ 8) l c _ noChannel d (omega (arith, w .long))
-      (λ q. taken-wide (getD l c noChannel) (w .places c (omega (arith, w .long)))) (w .places d h);
 }
 
 fresh-wide : Wide (replicate 32 emptyChannel)

@@ -33,7 +33,8 @@ use Rattle.promises.proofs.Reading.{itemsOf, partOf, source-is}
 use Rattle.promises.proofs.Held.{held-length}
 use Rattle.promises.proofs.Evaluated.{part-long}
 use Rattle.promises.proofs.Noted.{wasDone}
-use Rattle.promises.proofs.Grows.{steppedIn, possibleIn, lowestIn, drainedIn, theJob, lawJob, atRun, Goes, went, goes-stepped}
+use Rattle.promises.proofs.InOrder.{steppedIn}
+use Rattle.promises.proofs.Grows.{possibleIn, lowestIn, drainedIn, theJob, lawJob, atRun, Goes, went, goes-stepped}
 use Rattle.promises.proofs.Grows.{said-stepped}
 use Rattle.promises.proofs.Emptied.{lowest-fine, by-turns}
 

@@ -28,6 +28,7 @@ use Rattle.drain.specs.declared.Drained.{Drained}
 use Rattle.drain.specs.Lists.{isDone}
 use Rattle.drain.specs.Drains.{someLeft, ended}
 use Rattle.station.specs.Entries.{entry, stepOn, stepsOn, drainOn}
+use Rattle.promises.specs.Grown.{afterSteps, overSteps}
 
 -- how a drain ends: "Nothing left comes before 18, 18 before 19"
 pub data Ends (J : Columns) (limit : ℕ) (d : Drained) : Type 0 where
@@ -70,7 +71,7 @@ pub record ChannelCalls (ch : Channel) (x : Item) : Type 0 where
       → (withoutHead ch .answer ≡ 0) × (held ch ≡ withoutHead ch .item ∷ held (withoutHead ch .channel))
 
 -- 7. DEMAND 2 (`demand-2`), for a call that is admitted: a step that no rule refuses does what Algorithm 1's two handlers do on the task's
--- own channels (`HeadTaken`, then ..); a source handles the record that it reads and its waiting barrier alike
+-- own channels (`HeadTaken`, then ..); a source handles the record that it reads and its waiting barrier alike; a list is its steps
 module _ (J : Columns) (run : Run) where
   abbrev job : Job
   job = jobOf J
@@ -95,3 +96,5 @@ module _ (J : Columns) (run : Run) where
     -- "Live totals become those of the last complete snapshot, or all zero if there is none"; it stays, and all else is as in a fresh run
     pub cut : stepOn J run 65
         ≡ answered 0 (withLast (run .last) (run .complete) (withLive (cond (run .complete) (run .last) (freshRun .live)) freshRun))
+    -- "A list of steps is done in order; a refused step is counted and the next is tried": it is its steps, one call after another
+    pub list : (ns : List ℕ) → (stepsOn J run ns .run ≡ afterSteps J run ns) × (stepsOn J run ns .done ≡ overSteps J (λ run k. 1) run ns)

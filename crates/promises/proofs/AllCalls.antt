@@ -1,15 +1,13 @@
 -- 8. DEMAND 1 (`demand-1`): every call answers a number of the table, refuses exactly where the table says, and gives the run as it came.
 use mathlib.Core.Path.{_≡_, refl, sym, ap, subst, _∙_}
-use mathlib.Core.Bool.{Bool, true, false, cond, not, _&&_, _||_, true≢false, false≢true}
+use mathlib.Core.Bool.{Bool, true, false, not, _&&_, true≢false, false≢true}
 use mathlib.Core.List.{List, [], _∷_, _++_}
-use mathlib.Core.Logic.{_↔_}
 use Prim.Native.Nat.{ℕ, zero, suc, _+_, _-_, _<_, _≤_}
 use native.Mathlib.Omega.{arith}
 use borrow.Author.Tests.{eqb-true, eqb-false, eq-eqb, ne-eqb, ltb-true, ltb-false, le-leb, lt-leb, leb-true, leb-false, not-false}
 use lib.Dec.{eqb, leb, ltb}
 use lib.IntN.{ℤ, natAbs}
-use lib.ListN.{length, getD, set, take}
-use mir.Val.{boolByte}
+use lib.ListN.{length, set, take}
 use Rattle.channel.specs.declared.Cargo.{Cargo}
 use Rattle.channel.specs.declared.Cargo.the-variants.{Barrier, Record as Recorded}
 use Rattle.channel.specs.declared.Channel.{Channel}
@@ -17,36 +15,35 @@ use Rattle.channel.specs.declared.Item.{Item}
 use Rattle.channel.specs.Channels.{withoutHead}
 use Rattle.channel.proofs.Queues.{added-16, added-14, added-0, added-holds, taken-16, taken-13, taken-0, taken-holds}
 use Rattle.job.specs.declared.Job.{Job}
-use Rattle.job.specs.declared.Checked.{Checked}
 use Rattle.job.specs.Columns.{Columns, RecordsFit}
-use Rattle.job.specs.Jobs.{jobOf, bOf, toOf, isSource}
+use Rattle.job.specs.Jobs.{jobOf, bOf, toOf}
 use Rattle.job.specs.Rules.{jobAnswer, firstFault, columnFaults, graphFaults}
 use Rattle.job.specs.Fits.{JobFits}
 use Rattle.job.proofs.Exact.{exact}
 use Rattle.job.proofs.Fits.{accepted-fits}
-use Rattle.direct.specs.Direct.{fault35, directedOf}
+use Rattle.direct.specs.Direct.{directedOf}
 use Rattle.run.specs.declared.Run.{Run}
-use Rattle.run.specs.Fit.{Fits, runFits, channelAt, totalsAt, flagAt}
-use Rattle.run.proofs.Clauses.{fits-exact}
+use Rattle.run.specs.Fit.{Fits, channelAt, totalsAt, flagAt}
 use Rattle.step.specs.declared.Stepped.{Stepped}
 use Rattle.step.specs.Outputs.{someFull, allMarked, allStored}
 use Rattle.step.specs.Algorithm.{answered, completed, barrierReceived, recordReceived}
-use Rattle.step.specs.Step.{withCargo, delivered, isNoSource, offsetOf, sourceRead, barrierSent, begun, cutOff, stepped}
+use Rattle.step.specs.Step.{withCargo, delivered, isNoSource, offsetOf, sourceRead, barrierSent, begun, stepped}
 use Rattle.step.proofs.Fitting.{cond-has}
 use Rattle.step.proofs.Sources.{source-is}
 use Rattle.step.proofs.Keeps.{stepped-fits}
-use Rattle.drain.specs.declared.Drained.{Drained}
-use Rattle.drain.specs.Lists.{isDone, listedTo}
-use Rattle.drain.specs.Drains.{someLeft, possible, firstFrom, lowest, ended, drainedOf}
-use Rattle.station.specs.Entries.{admittedOf, entry, stepOn, stepsOn, drainOn}
-use Rattle.station.proofs.Admission.{check-answer, refused-job, admitted-fits, admitted-16, Admitted, admitted}
-use Rattle.step.specs.Handlers.{Sized, Head, Open, Full, Completes, Source, Refused}
+use Rattle.drain.specs.Lists.{isDone}
+use Rattle.drain.specs.Drains.{someLeft, possible, firstFrom, lowest, drainedOf}
+use Rattle.station.specs.Entries.{entry, stepOn, stepsOn, drainOn}
+use Rattle.station.proofs.Admission.{admitted}
+use Rattle.step.specs.Handlers.{Sized, Head, Open, Refused}
 use Rattle.promises.specs.Demands.{Ends, Demand1, ChannelCalls}
 use Rattle.promises.specs.Demands.Ends.{nothing-left, spent, stuck}
 use Rattle.step.specs.Handlers.Refused.{no-channel, blocked, empty, no-room, no-room-to-pass, counted-out, cannot-read, read-out}
 use Rattle.step.specs.Handlers.Refused.{no-room-to-read, cannot-send, none-waits, no-room-to-send, under-way, no-such-step}
-use Rattle.promises.proofs.Conditions.{fails, is-full, full-is, no-full, not-full, is-completing, completing-is, is-source}
+use Rattle.promises.proofs.Conditions.{is-full, full-is, no-full, not-full, is-completing, completing-is, is-source}
 use Rattle.promises.proofs.Conditions.{no-source, empty-count, taken-rest, at-head, at-empty, at-delivery, at-read, at-send, at-none}
+use Rattle.promises.proofs.Conditions.{entry-job, entry-fits, entry-misfits}
+use Rattle.promises.proofs.InOrder.{OnStep, counts-all}
 
 -- ---- a step
 abbrev Done : Stepped → Type 0
@@ -198,19 +195,6 @@ module _ (job : Job) (c v : List ℤ) (J : JobFits job (length c)) (run : Run) (
       (λ e. cond-has Done (eqb n 65) (λ _. refl)
       (λ g. absurd (none 11 (no-such-step (omega (arith, ltb-false n 64 d, eqb-false n 64 e, eqb-false n 65 g)))))))))
 
--- ---- a list of steps counts each of them once
-counts-all : (job : Job) (c v : List ℤ) (run : Run) (ns : List ℕ) (k : ℕ)
-    → (listedTo job c v run ns k .answer ≡ 0) × (listedTo job c v run ns k .done + listedTo job c v run ns k .refused ≡ k)
-unfolding listedTo
-counts-all job c v run ns zero = (refl, refl)
-counts-all job c v run ns (suc k) =
-    let s = stepped job c v (listedTo job c v run ns k .run) (getD ns k 0) in
-    (refl, omega (arith, counts-all job c v run ns k .1, one (isDone (s .answer))))
-  where
-    one : (b : Bool) → boolByte b + boolByte (not b) ≡ 1
-    one true = refl
-    one false = refl
-
 -- ---- a search that comes to its end met no number that passes
 none-passed : (test : ℕ → Bool) (k i n : ℕ) → firstFrom k i test ≡ i + k → i ≤ n → n < i + k → test n ≡ false
 unfolding firstFrom
@@ -240,33 +224,7 @@ module _ (J : Columns) where
   unfolding jobAnswer
   at-most-9 = omega (arith, first-low (columnFaults J ++ graphFaults (jobOf J)) 1 (omega arith))
 
-  entry-job : (run : Run) → (jobAnswer J ≡ 0 → ⊥) → entry J run ≡ jobAnswer J
-  entry-job run ne = ap (λ (x : Checked). x .answer) (sym (refused-job J run ne)) ∙ check-answer J
-
-  module _ (run : Run) (z : jobAnswer J ≡ 0) where
-    entry-by : (b : Bool) → runFits (jobOf J) run ≡ b → entry J run ≡ cond b 0 16
-    entry-by true e = ap (λ (x : Checked). x .answer) (sym (admitted-fits J run z e))
-    entry-by false e = ap (λ (x : Checked). x .answer) (sym (admitted-16 J run z e))
-
-    exactly : (runFits (jobOf J) run ≡ true) ↔ Fits (jobOf J) run
-    exactly = fits-exact (jobOf J) (accepted-fits J z .sends .sized) run
-
-    pub entry-fits : Fits (jobOf J) run → entry J run ≡ 0
-    entry-fits F = entry-by true (exactly .1 F)
-
-    entry-misfits : (Fits (jobOf J) run → ⊥) → entry J run ≡ 16
-    entry-misfits n = entry-by false (fails (runFits (jobOf J) run) (exactly .0) n)
-
-  pub step-open : (run : Run) (n : ℕ) → entry J run ≡ 0 → stepOn J run n ≡ stepped (jobOf J) (J .cylinders) (J .values) run n
-  unfolding stepOn
-  step-open run n z = simp (eq-eqb (entry J run) 0 z)
-
-  drain-open : (run : Run) (limit : ℕ) → entry J run ≡ 0
-      → drainOn J run limit ≡ drainedOf (jobOf J) (J .cylinders) (J .values) limit 0 run
-  unfolding drainOn
-  drain-open run limit z = simp (eq-eqb (entry J run) 0 z)
-
-  module _ (z : jobAnswer J ≡ 0) (R : RecordsFit (J .cylinders) (J .values)) where
+  module _ (z : jobAnswer J ≡ 0) (R : RecordsFit (J .cylinders) (J .values)) (on : OnStep J) where
     abbrev low : Run → ℕ
     low run = lowest (jobOf J) (J .cylinders) (J .values) run
 
@@ -281,7 +239,7 @@ module _ (J : Columns) where
         cond-has (Ends J (s + suc k)) (someLeft (jobOf J) run)
         (λ e. cond-has (Ends J (s + suc k)) (eqb (low run) 64)
         (λ q. stuck e (omega arith) (λ n l.
-        ap (λ (x : Stepped). isDone (x .answer)) (step-open run n (entry-fits run z F))
+        ap (λ (x : Stepped). isDone (x .answer)) (on run F n)
         ∙ none-passed (possible (jobOf J) (J .cylinders) (J .values) run) 64 0 n (eqb-true (low run) 64 q) (omega arith) l) refl)
         (λ q.
         subst (λ m. Ends J m (drainedOf (jobOf J) (J .cylinders) (J .values) k (s + 1) (next run))) (omega arith)
@@ -302,25 +260,28 @@ channel-calls ch x wide = record {
 -- DEMAND 1
 pub demand-1 : (J : Columns) (run : Run) → Sized run → Demand1 J run
 unfolding stepOn stepsOn drainOn directedOf
-demand-1 J run S = record {
-  check = (at-most-9 J, exact J);
-  job-first = entry-job J run;
-  then-16 = λ z. (
-    (λ e. admitted J run e .run-fits, entry-fits J run z),
-    (λ e F. omega (arith, entry-fits J run z F), entry-misfits J run z),
-  );
-  shut = λ ne n limit ns. (simp (ne-eqb (entry J run) 0 ne), simp (ne-eqb (entry J run) 0 ne), simp (ne-eqb (entry J run) 0 ne));
-  step-refused = λ z n k x. let A = admitted J run z in
-      step-open J run n z ∙ refused-by (jobOf J) (J .cylinders) (J .values) (A .job-fits) run (A .run-fits) S n k x;
-  step-done = λ z n none. let A = admitted J run z in
-      ap (λ (x : Stepped). isDone (x .answer)) (step-open J run n z)
-      ∙ done-by (jobOf J) (J .cylinders) (J .values) (A .job-fits) run (A .run-fits) S n none;
-  list = λ z ns. simp (eq-eqb (entry J run) 0 z) (counts-all (jobOf J) (J .cylinders) (J .values) run ns (length ns));
-  drain = λ z limit. let A = admitted J run z in
-      let p : 0 + limit ≡ limit = omega arith in
-      subst (λ m. Ends J m (drainOn J run limit)) p
-      (subst (Ends J (0 + limit)) (sym (drain-open J run limit z)) (ends-from J (A .accepted) (A .records-fit) limit 0 run (A .run-fits)));
-  direct-job = λ ne counts. simp (ne-eqb (jobAnswer J) 0 ne);
-  direct-35 = λ z counts f. simp (eq-eqb (jobAnswer J) 0 z, f);
-  direct-0 = λ z counts f. simp (eq-eqb (jobAnswer J) 0 z, f);
-}
+demand-1 J run S =
+    let on : jobAnswer J ≡ 0 → OnStep J = λ ok x F n. simp (eq-eqb (entry J x) 0 (entry-fits J x ok F)) in
+    record {
+      check = (at-most-9 J, exact J);
+      job-first = entry-job J run;
+      then-16 = λ z. (
+        (λ e. admitted J run e .run-fits, entry-fits J run z),
+        (λ e F. omega (arith, entry-fits J run z F), entry-misfits J run z),
+      );
+      shut = λ ne n limit ns. (simp (ne-eqb (entry J run) 0 ne), simp (ne-eqb (entry J run) 0 ne), simp (ne-eqb (entry J run) 0 ne));
+      step-refused = λ z n k x. let A = admitted J run z in
+          on (A .accepted) run (A .run-fits) n ∙ refused-by (jobOf J) (J .cylinders) (J .values) (A .job-fits) run (A .run-fits) S n k x;
+      step-done = λ z n none. let A = admitted J run z in
+          ap (λ (x : Stepped). isDone (x .answer)) (on (A .accepted) run (A .run-fits) n)
+          ∙ done-by (jobOf J) (J .cylinders) (J .values) (A .job-fits) run (A .run-fits) S n none;
+      list = λ z ns. simp (eq-eqb (entry J run) 0 z) (counts-all (jobOf J) (J .cylinders) (J .values) run ns (length ns));
+      drain = λ z limit. let A = admitted J run z in
+          let p : 0 + limit ≡ limit = omega arith in
+          let e : drainOn J run limit ≡ drainedOf (jobOf J) (J .cylinders) (J .values) limit 0 run = simp (eq-eqb (entry J run) 0 z) in
+          subst (λ m. Ends J m (drainOn J run limit)) p
+          (subst (Ends J (0 + limit)) (sym e) (ends-from J (A .accepted) (A .records-fit) (on (A .accepted)) limit 0 run (A .run-fits)));
+      direct-job = λ ne counts. simp (ne-eqb (jobAnswer J) 0 ne);
+      direct-35 = λ z counts f. simp (eq-eqb (jobAnswer J) 0 z, f);
+      direct-0 = λ z counts f. simp (eq-eqb (jobAnswer J) 0 z, f);
+    }

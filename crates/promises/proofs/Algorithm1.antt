@@ -1,109 +1,50 @@
 -- 7. DEMAND 2 (`demand-2`): a step that the rules do not refuse does what Algorithm 1's handlers do on the task's own channels.
 use mathlib.Core.Path.{_≡_, refl, sym, ap, subst, _∙_}
 use mathlib.Core.Bool.{Bool, true, false, cond, not, _&&_, _||_, true≢false}
-use mathlib.Core.List.{List, [], _∷_, _++_, map, append-nil}
-use Prim.Native.Nat.{ℕ, _+_, _-_, _<_, _≤_}
+use mathlib.Core.List.{List, _∷_}
+use Prim.Native.Nat.{ℕ, _+_, _<_, _≤_}
 use native.Mathlib.Omega.{arith}
-use borrow.Author.Tests.{eqb-true, eqb-false, eq-eqb, ne-eqb, le-ltb, ltb-true, ltb-false, lt-leb}
-use lib.Dec.{eqb, ltb, leb}
+use borrow.Author.Tests.{eqb-true, eq-eqb, ltb-true, ltb-false, lt-leb}
+use lib.Dec.{ltb}
 use lib.IntN.{ℤ, natAbs}
-use lib.ListN.{length, getD, set, drop, length-set, length-drop, length-append}
+use lib.ListN.{length, getD, set, length-set}
 use lib.Seq.{getD-set-same, getD-set-other}
 use Rattle.tally.specs.declared.Record.{Record}
-use Rattle.tally.specs.Totals.{noTotals, withValue}
-use Rattle.kinds.specs.declared.Sending.{Sending}
-use Rattle.kinds.specs.declared.Sending.the-variants.{Nothing, One}
+use Rattle.tally.specs.Totals.{noTotals}
 use Rattle.channel.specs.declared.Cargo.{Cargo}
 use Rattle.channel.specs.declared.Cargo.the-variants.{Barrier, Record as Recorded}
 use Rattle.channel.specs.declared.Channel.{Channel}
-use Rattle.channel.specs.declared.Item.{Item}
-use Rattle.channel.specs.Channels.{held, barrier, withoutHead}
-use Rattle.channel.proofs.Queues.{added-holds}
+use Rattle.channel.specs.Channels.{held, withoutHead}
 use Rattle.job.specs.declared.Job.{Job}
 use Rattle.job.specs.Columns.{Columns}
-use Rattle.job.specs.Jobs.{jobOf, bOf, toOf, fromOf, isSource, isInput, isOutput, placeOf}
+use Rattle.job.specs.Jobs.{jobOf, bOf, toOf, fromOf, isSource, isInput}
 use Rattle.job.specs.Fits.{JobFits}
-use Rattle.job.specs.Graph.{asList, sentBy, sentOver, overChannel}
 use Rattle.job.proofs.Bools.{both-true}
 use Rattle.job.proofs.Tests.{every-all, all-every}
 use Rattle.run.specs.declared.Run.{Run}
-use Rattle.run.specs.Runs.{noChannel, withChannels, withMarked, withWaiting, withLive, withHalf}
+use Rattle.run.specs.Runs.{noChannel, withChannels, withMarked, withWaiting}
 use Rattle.run.specs.Fit.{Fits, channelAt, totalsAt, flagAt}
 use Rattle.run.proofs.Clauses.{and-of}
 use Rattle.step.specs.declared.Stepped.{Stepped}
-use Rattle.step.specs.Outputs.{putSent, put, carried, putOn, putAll, someFull, allMarked, allStored, unmarked, sourcesWait}
+use Rattle.step.specs.Outputs.{putAll, allStored, unmarked, sourcesWait}
 use Rattle.step.specs.Algorithm.{answered, sealed, completed, storedBy, barrierReceived, takenIn, recordReceived}
-use Rattle.step.specs.Step.{withCargo, offsetOf, nextRecord, delivered, sourceRead, barrierSent, begun, cutOff, stepped}
+use Rattle.step.specs.Step.{withCargo, offsetOf, nextRecord, sourceRead, barrierSent, begun, cutOff, stepped}
 use Rattle.step.proofs.Places.{place-at, place-past}
-use Rattle.station.specs.Entries.{entry, stepOn}
-use Rattle.station.proofs.Admission.{Admitted, admitted}
+use Rattle.drain.specs.declared.Listed.{Listed}
+use Rattle.station.specs.Entries.{entry, stepOn, stepsOn}
+use Rattle.station.proofs.Admission.{admitted}
 use Rattle.step.specs.Handlers.{Sized, Head, Open, Full, Completes, Source, HeadTaken, Sent, Received, Marked, Passed, Sealed}
 use Rattle.promises.specs.Demands.{Demand2}
 use Rattle.promises.proofs.Conditions.{fails, not-full, is-completing, not-completing, is-source, head-count, head-is}
 use Rattle.promises.proofs.Conditions.{taken-rest, at-head, at-delivery, at-read, at-send, at-begin, at-cut}
-use Rattle.promises.proofs.Demands1.{step-open}
-
--- ---- what is put on the outputs
-abbrev asItem : Record → Item
-asItem r = record { cargo = Recorded r }
-
-abbrev itemsFor : Job → Cargo → ℕ → List Item
-itemsFor job Barrier d = barrier ∷ []
-itemsFor job (Recorded r) d = map asItem (overChannel job d r)
-
--- 32 channels of 8 places
-record Queues (l : List Channel) : Type 0 where
-  pub long : length l ≡ 32
-  pub places : (c : ℕ) → c < 32 → length (getD l c noChannel .items) ≡ 8
-
-module _ (job : Job) (few : job .channels ≤ 32) (t : ℕ) (l : List Channel) (Q : Queues l) where
-  sent-holds : (ch : Channel) → length (ch .items) ≡ 8 → ch .count < 8 → (s : Sending)
-      → held (putSent ch s) ≡ held ch ++ map asItem (asList s)
-  sent-holds ch wide h Nothing = sym (append-nil (held ch))
-  sent-holds ch wide h (One r) = added-holds ch wide (record { cargo = Recorded r }) h
-
-  carried-holds : (cargo : Cargo) (d : ℕ) (ch : Channel) → length (ch .items) ≡ 8 → ch .count < 8 → fromOf job d ≡ t
-      → held (carried job t (placeOf job t d) (placeOf job t (job .channels)) cargo ch) ≡ held ch ++ itemsFor job cargo d
-  unfolding sentOver
-  carried-holds Barrier d ch wide h e = added-holds ch wide (record { cargo = Barrier }) h
-  carried-holds (Recorded r) d ch wide h e =
-      sent-holds ch wide h (sentBy job t (placeOf job t d) (placeOf job t (job .channels)) r)
-      ∙ ap (λ u. held ch ++ map asItem (asList (sentBy job u (placeOf job u d) (placeOf job u (job .channels)) r)))
-      (sym e)
-
-  on-output : (cargo : Cargo) (d : ℕ) (ch : Channel) (b : Bool) → isOutput job t d ≡ b
-      → putOn job t cargo d ch ≡ cond b (carried job t (placeOf job t d) (placeOf job t (job .channels)) cargo ch) ch
-  unfolding putOn
-  on-output cargo d ch b e = ap (λ b. cond b (carried job t (placeOf job t d) (placeOf job t (job .channels)) cargo ch) ch) e
-
-  module _ (cargo : Cargo) where
-    below : (d : ℕ) → d < job .channels → getD (putAll job t cargo l) d noChannel ≡ putOn job t cargo d (getD l d noChannel)
-    unfolding putAll
-    below d ld = place-at noChannel (putOn job t cargo) l (job .channels) d ld (omega (arith, Q .long))
-
-    beyond : (d : ℕ) → job .channels ≤ d → getD (putAll job t cargo l) d noChannel ≡ getD l d noChannel
-    unfolding putAll
-    beyond d ld = place-past noChannel (putOn job t cargo) l (job .channels) d ld
-
-    outputs-hold : (d : ℕ) → d < job .channels → fromOf job d ≡ t → getD l d noChannel .count < 8
-        → held (getD (putAll job t cargo l) d noChannel) ≡ held (getD l d noChannel) ++ itemsFor job cargo d
-    outputs-hold d ld e room =
-        ap held (below d ld ∙ on-output cargo d (getD l d noChannel) true (eq-eqb (fromOf job d) t e))
-        ∙ carried-holds cargo d (getD l d noChannel) (Q .places d (omega arith)) room e
-
-    others-same : (d : ℕ) → (d < job .channels → fromOf job d ≡ t → ⊥) → getD (putAll job t cargo l) d noChannel ≡ getD l d noChannel
-    others-same d out = go (ltb d (job .channels)) refl
-      where
-        go : (b : Bool) → ltb d (job .channels) ≡ b → getD (putAll job t cargo l) d noChannel ≡ getD l d noChannel
-        go true e =
-            let ld = ltb-true d (job .channels) e in
-            below d ld ∙ on-output cargo d (getD l d noChannel) false (fails (isOutput job t d) (eqb-true (fromOf job d) t) (out ld))
-        go false e = beyond d (ltb-false d (job .channels) e)
+use Rattle.promises.proofs.Conditions.{entry-fits}
+use Rattle.promises.proofs.Queued.{itemsFor, Wide, popped, rest-wide, fewer, outputs-hold, others-same}
+use Rattle.promises.proofs.InOrder.{OnStep, listedIn, in-order, done-in-order}
 
 module _ (job : Job) (few : job .channels ≤ 32) where
   -- what handlers find: 32 channels of 8 places, arrays for 16 tasks, and room on the outputs of task t
   record Ready (x : Run) (t : ℕ) : Type 0 where
-    pub queues : Queues (x .channels)
+    pub queues : Wide (x .channels)
     pub live : t < length (x .live)
     pub half : t < length (x .half)
     pub stored : t < length (x .stored)
@@ -154,17 +95,6 @@ module _ (job : Job) (few : job .channels ≤ 32) where
         (p .0, every-all (flagAt (y .stored)) (job .tasks) (p .1))) n);
   }
 
--- ---- a channel without its head
-module _ (ch : Channel) (p : 0 < ch .count) (h : ch .count ≤ 8) (wide : length (ch .items) ≡ 8) where
-  without-wide : length (withoutHead ch .channel .items) ≡ 8
-  unfolding withoutHead
-  without-wide =
-      simp (le-ltb 8 (ch .count) h, ne-eqb (ch .count) 0 (λ e. omega arith), length-append, length-drop) (omega arith)
-
-  without-count : withoutHead ch .channel .count ≤ ch .count
-  unfolding withoutHead
-  without-count = simp (le-ltb 8 (ch .count) h, ne-eqb (ch .count) 0 (λ e. omega arith)) (omega arith)
-
 module _ (job : Job) (c v : List ℤ) (J : JobFits job (length c)) (run : Run) (F : Fits job run) (S : Sized run) where
   few : job .channels ≤ 32
   few = J .sends .sized .few-channels
@@ -194,7 +124,7 @@ module _ (job : Job) (c v : List ℤ) (J : JobFits job (length c)) (run : Run) (
     ch = channelAt run n
 
     abbrev x : Run
-    x = withChannels (set (run .channels) n (withoutHead ch .channel)) run
+    x = withChannels (popped (run .channels) n) run
 
     more : 0 < ch .count
     more = head-count job (J .sends .sized) run F S n o cargo hd
@@ -214,24 +144,6 @@ module _ (job : Job) (c v : List ℤ) (J : JobFits job (length c)) (run : Run) (
       rest = refl;
     }
 
-    x-places : (d : ℕ) (b : Bool) → eqb d n ≡ b → d < 32 → length (channelAt x d .items) ≡ 8
-    x-places d true e l =
-        ap (λ k. length (channelAt x k .items)) (eqb-true d n e) ∙ ap (λ (q : Channel). length (q .items)) at-n
-        ∙ without-wide ch more (F .channels n ln .room) (S .items n ln)
-    x-places d false e l = ap (λ (q : Channel). length (q .items)) (at-other d (eqb-false d n e)) ∙ S .items d l
-
-    x-count : (d : ℕ) (b : Bool) → eqb d n ≡ b → channelAt x d .count ≤ channelAt run d .count
-    x-count d true e =
-        let s = eqb-true d n e in
-        omega (
-          arith,
-          ap (λ k. channelAt x k .count) s,
-          ap (λ k. channelAt run k .count) s,
-          ap (λ (q : Channel). q .count) at-n,
-          without-count ch more (F .channels n ln .room) (S .items n ln),
-        )
-    x-count d false e = omega (arith, ap (λ (q : Channel). q .count) (at-other d (eqb-false d n e)))
-
     to : toOf job n < job .tasks
     to = J .sends .sized .to-task n (o .0)
 
@@ -239,11 +151,11 @@ module _ (job : Job) (c v : List ℤ) (J : JobFits job (length c)) (run : Run) (
     x-ready f =
         let R = ready (toOf job n) to f in
         record {
-          queues = record { long = length-set (run .channels) n _ ∙ S .channels; places = λ d l. x-places d (eqb d n) refl l };
+          queues = rest-wide (run .channels) n (R .queues);
           live = R .live;
           half = R .half;
           stored = R .stored;
-          room = λ d l e. omega (arith, R .room d l e, x-count d (eqb d n) refl);
+          room = λ d l e. omega (arith, R .room d l e, fewer (run .channels) n d (channelAt run d .count) (omega arith));
         }
 
     at-cargo : stepped job c v run n ≡ withCargo job run n cargo (withoutHead ch .channel)
@@ -342,7 +254,7 @@ module _ (job : Job) (c v : List ℤ) (J : JobFits job (length c)) (run : Run) (
 
 -- DEMAND 2
 pub demand-2 : (J : Columns) (run : Run) → Sized run → entry J run ≡ 0 → Demand2 J run
-unfolding begun cutOff
+unfolding begun cutOff stepOn stepsOn
 demand-2 J run S z =
     let A = admitted J run z in
     let job = jobOf J in
@@ -351,9 +263,10 @@ demand-2 J run S z =
     let JF = A .job-fits in
     let F = A .run-fits in
     let few′ = few job c v JF run F S in
+    let on : OnStep J = λ x Fx n. simp (eq-eqb (entry J x) 0 (entry-fits J x (A .accepted) Fx)) in
     record {
       receive-record = λ n r o h f l.
-          let e = step-open J run n z ∙ record-done job c v JF run F S n r o h f l in (
+          let e = on run F n ∙ record-done job c v JF run F S n r o h f l in (
             ap (λ (s : Stepped). s .answer) e,
             x job c v JF run F S n o (Recorded r) h,
             taken job c v JF run F S n o (Recorded r) h,
@@ -361,7 +274,7 @@ demand-2 J run S z =
                 (received job few′ _ (toOf job n) r (x-ready job c v JF run F S n o (Recorded r) h f)),
           );
       receive-barrier = λ n o h m.
-          let e = step-open J run n z ∙ barrier-marks job c v JF run F S n o h m in (
+          let e = on run F n ∙ barrier-marks job c v JF run F S n o h m in (
             ap (λ (s : Stepped). s .answer) e,
             x job c v JF run F S n o Barrier h,
             taken job c v JF run F S n o Barrier h,
@@ -372,7 +285,7 @@ demand-2 J run S z =
             },
           );
       pass-barrier = λ n o h m f.
-          let e = step-open J run n z ∙ barrier-passes job c v JF run F S n o h m f in (
+          let e = on run F n ∙ barrier-passes job c v JF run F S n o h m f in (
             x job c v JF run F S n o Barrier h,
             _,
             taken job c v JF run F S n o Barrier h,
@@ -381,13 +294,13 @@ demand-2 J run S z =
             subst (Sealed job _) (sym e) (sealed-by job few′ _),
           );
       read = λ t s l f.
-          let e = step-open J run (32 + t) z ∙ read-done job c v JF run F S t s l f in (
+          let e = on run F (32 + t) ∙ read-done job c v JF run F S t s l f in (
             ap (λ (s : Stepped). s .answer) e,
             subst (λ (y : Stepped). Received job run (y .run) t (nextRecord job c v run t)) (sym e)
                 (received job few′ run t (nextRecord job c v run t) (ready job c v JF run F S t (s .0) f)),
           );
       send-barrier = λ t s w f.
-          let e = step-open J run (48 + t) z ∙ send-done job c v JF run F S t s w f in
+          let e = on run F (48 + t) ∙ send-done job c v JF run F S t s w f in
           let R = ready job c v JF run F S t (s .0) f in (
             _,
             passed job few′ (withWaiting (set (run .waiting) t false) run) t (run .marked)
@@ -397,8 +310,13 @@ demand-2 J run S z =
           );
       begin = λ u. (
         sourcesWait job (run .waiting),
-        step-open J run 64 z ∙ at-begin job c v run ∙ simp u,
+        on run F 64 ∙ at-begin job c v run ∙ simp u,
         wait-at job c v JF run F S,
       );
-      cut = step-open J run 65 z ∙ at-cut job c v run;
+      cut = on run F 65 ∙ at-cut job c v run;
+      list = λ ns.
+          let e : stepsOn J run ns ≡ listedIn J run ns (length ns) = simp (eq-eqb (entry J run) 0 z) in (
+            ap (λ (l : Listed). l .run) e ∙ in-order J JF (A .records-fit) on run F ns,
+            ap (λ (l : Listed). l .done) e ∙ done-in-order J JF (A .records-fit) on run F ns,
+          );
     }
