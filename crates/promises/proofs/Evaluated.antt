@@ -20,7 +20,7 @@ use Rattle.laws.proofs.Below.{length-tab}
 use Rattle.laws.proofs.Sums.{sum-ext}
 use Rattle.tally.specs.declared.Record.{Record}
 use Rattle.tally.specs.declared.Totals.{Totals}
-use Rattle.tally.specs.Totals.{noTotals, totalsOf}
+use Rattle.tally.specs.Totals.{noTotals}
 use Rattle.tally.proofs.Fold.{encode, decode, Empty0, decode-encode, encode-totals}
 use Rattle.job.specs.declared.Job.{Job}
 use Rattle.job.specs.Tests.{filled}
@@ -31,7 +31,7 @@ use Rattle.job.specs.Fits.{JobFits}
 use Rattle.job.proofs.Tests.{length-filled, filled-at, filled-past}
 use Rattle.direct.specs.Direct.{countOf, recordsFrom, readBy, receivedBy, directTotals, totalsOfAll}
 use Rattle.direct.proofs.Sending.{at-most-one}
-use Rattle.direct.proofs.Walked.{sum-map}
+use Rattle.direct.proofs.Walked.{empty-0, sum-map}
 use Rattle.promises.proofs.Reading.{readJob, readGraph, partOf, endOf, end-is, source-is, from-ok, ranked}
 
 -- the first k of a table
@@ -143,10 +143,6 @@ module _ (job : Job) (cylinders values : List ℤ) (J : JobFits job (length cyli
         (λ u h.
         at u (omega (arith, length-filled 16 noTotals (directTotals job cylinders values counts) (job .tasks))) (ltb u (job .tasks)) refl)
       where
-        empty-0 : (vs : List ℤ) → Empty0 (totalsOf vs)
-        empty-0 [] = record { least-0 = λ e. refl; greatest-0 = λ e. refl }
-        empty-0 (v ∷ vs) = record { least-0 = λ e. absurd (omega arith); greatest-0 = λ e. absurd (omega arith) }
-
         at : (u : ℕ) → u < 16 → (b : Bool) → ltb u (job .tasks) ≡ b
             → getD (filled 16 noTotals (directTotals job cylinders values counts) (job .tasks)) u noTotals ≡ getD l u noTotals
         at u l₁₆ true e =

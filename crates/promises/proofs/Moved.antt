@@ -36,7 +36,7 @@ use Rattle.step.specs.Outputs.{isFull, someFull, sourcesWait, putAll}
 use Rattle.step.specs.Algorithm.{answered, sealed, completed, storedBy, takenIn}
 use Rattle.step.specs.Step.{cutOff, lastOrNone}
 use Rattle.step.proofs.Fitting.{replicate-has}
-use Rattle.promises.proofs.Reading.{itemsOf, sourceOf, source-is, offsetIn, readRun, readOut, Sized, endOf, end-is, readJob}
+use Rattle.promises.proofs.Reading.{itemsOf, sourceOf, source-is, offsetIn, readWith, readRun, readOut, Sized, endOf, end-is, readJob}
 use Rattle.promises.proofs.Queued.{popped, rest-wide, fewer}
 use Rattle.promises.proofs.Held.{set-at, at-set, Queues, chansOf, itemsFor, put-all-items, pop-items}
 use Rattle.promises.proofs.Asked.{stored-is, emptied, counted-at, offset-more, offset-same, sources-wait}
@@ -83,19 +83,9 @@ module _ (job : Job) (cylinders values : List ℤ) (JF : JobFits job (length cyl
   pub read-is : (run : Run) (t : ℕ) (r : Record) → Sized run → Queues (run .channels) → t < job .tasks → sourceOf job t ≡ true
       → someFull job (run .channels) t ≡ false → readRun job (takenIn job run t r) ≡ read1 J (readRun job run) t r
   unfolding takenIn
-  read-is run t r S Q lt src room = λ i. record {
-    chan = λ c. put-all-items job t (Recorded r) (run .channels) Q few lt (roomy job (run .channels) t room) c i;
-    live = λ v. counted-at (run .live) t (r .value) here v i;
-    off = λ v. offset-more job (run .live) t (r .value) here src v i;
-    mark = flagAt (run .marked);
-    wait = flagAt (run .waiting);
-    stored = flagAt (run .stored);
-    half = λ v. encode (totalsAt (run .half) v);
-    halfOff = offsetIn job (run .half);
-    going = run .«under_way»;
-    last = λ v. encode (totalsAt (lastOrNone run) v);
-    lastOff = offsetIn job (lastOrNone run);
-  }
+  read-is run t r S Q lt src room = λ i.
+      readWith job run (λ c. put-all-items job t (Recorded r) (run .channels) Q few lt (roomy job (run .channels) t room) c i)
+      (λ v. counted-at (run .live) t (r .value) here v i) (λ v. offset-more job (run .live) t (r .value) here src v i) (flagAt (run .marked))
     where
       here : t < length (run .live)
       here = omega (arith, S .live, few-tasks)
@@ -105,19 +95,9 @@ module _ (job : Job) (cylinders values : List ℤ) (JF : JobFits job (length cyl
       → someFull job (run .channels) (toOf job d) ≡ false
       → readRun job (takenIn job (withChannels (popped (run .channels) d) run) (toOf job d) r) ≡ deliver1 J (readRun job run) d r
   unfolding takenIn
-  deliver-is run d r S Q ld p room = λ i. record {
-    chan = λ c. chans c i;
-    live = λ v. (counted-at (run .live) t (r .value) here v ∙ ap (λ u. counted v u) (sym to-is)) i;
-    off = λ v. offset-same job (run .live) t (withValue (totalsAt (run .live) t) (r .value)) here other v i;
-    mark = flagAt (run .marked);
-    wait = flagAt (run .waiting);
-    stored = flagAt (run .stored);
-    half = λ v. encode (totalsAt (run .half) v);
-    halfOff = offsetIn job (run .half);
-    going = run .«under_way»;
-    last = λ v. encode (totalsAt (lastOrNone run) v);
-    lastOff = offsetIn job (lastOrNone run);
-  }
+  deliver-is run d r S Q ld p room = λ i.
+      readWith job run (λ c. chans c i) (λ v. (counted-at (run .live) t (r .value) here v ∙ ap (λ u. counted v u) (sym to-is)) i)
+      (λ v. offset-same job (run .live) t (withValue (totalsAt (run .live) t) (r .value)) here other v i) (flagAt (run .marked))
     where
       t : ℕ
       t = toOf job d
@@ -148,19 +128,9 @@ module _ (job : Job) (cylinders values : List ℤ) (JF : JobFits job (length cyl
   -- the barrier at the head of d is taken, and d is marked
   pub mark-is : (run : Run) (d : ℕ) → Sized run → Queues (run .channels) → d < job .channels → 0 < channelAt run d .count
       → readRun job (withMarked (set (run .marked) d true) (withChannels (popped (run .channels) d) run)) ≡ mark1 J (readRun job run) d
-  mark-is run d S Q ld p = λ i. record {
-    chan = λ c. pop-items (run .channels) Q d (omega (arith, few)) p c i;
-    live = λ v. encode (totalsAt (run .live) v);
-    off = offsetIn job (run .live);
-    mark = λ c. at-set (run .marked) d true false (omega (arith, S .marked, few)) c i;
-    wait = flagAt (run .waiting);
-    stored = flagAt (run .stored);
-    half = λ v. encode (totalsAt (run .half) v);
-    halfOff = offsetIn job (run .half);
-    going = run .«under_way»;
-    last = λ v. encode (totalsAt (lastOrNone run) v);
-    lastOff = offsetIn job (lastOrNone run);
-  }
+  mark-is run d S Q ld p = λ i.
+      readWith job run (λ c. pop-items (run .channels) Q d (omega (arith, few)) p c i) (λ v. encode (totalsAt (run .live) v))
+      (offsetIn job (run .live)) (λ c. at-set (run .marked) d true false (omega (arith, S .marked, few)) c i)
 
   -- the snapshot is complete
   pub finish-is : (run : Run) → readRun job (sealed run) ≡ finish1 J (readRun job run)

@@ -52,12 +52,13 @@ sourceOf job t = ltb t (job .tasks) && isSource job t
 abbrev pub offsetIn : Job → List Totals → ℕ → ℕ
 offsetIn job l t = cond (sourceOf job t) (totalsAt l t .count) 0
 
-abbrev pub readRun : Job → Run → OneRun Record (totMon .Car)
-readRun job run = record {
-  chan = λ c. itemsOf (held (channelAt run c));
-  live = λ v. encode (totalsAt (run .live) v);
-  off = offsetIn job (run .live);
-  mark = flagAt (run .marked);
+-- with what channels hold, live totals, offsets and marks given: all that a record or a barrier that only marks changes
+abbrev pub readWith : Job → Run → (ℕ → List (Item Record)) → (ℕ → totMon .Car) → (ℕ → ℕ) → (ℕ → Bool) → OneRun Record (totMon .Car)
+readWith job run chan live off mark = record {
+  chan = chan;
+  live = live;
+  off = off;
+  mark = mark;
   wait = flagAt (run .waiting);
   stored = flagAt (run .stored);
   half = λ v. encode (totalsAt (run .half) v);
@@ -66,6 +67,11 @@ readRun job run = record {
   last = λ v. encode (totalsAt (lastOrNone run) v);
   lastOff = offsetIn job (lastOrNone run);
 }
+
+abbrev pub readRun : Job → Run → OneRun Record (totMon .Car)
+readRun job run =
+    readWith job run (λ c. itemsOf (held (channelAt run c))) (λ v. encode (totalsAt (run .live) v)) (offsetIn job (run .live))
+    (flagAt (run .marked))
 
 -- arrays of the sizes that the run's type gives them
 abbrev pub Sized : Run → Type 0

@@ -82,104 +82,60 @@ fresh-wide = record {
 }
 
 -- ---- the run
+sized : {run : Run} → Wide (run .channels) → length (run .marked) ≡ 32 → length (run .waiting) ≡ 16 → length (run .live) ≡ 16
+    → length (run .half) ≡ 16 → length (run .stored) ≡ 16 → length (run .last) ≡ 16 → Sized run
+sized w m wait live half stored last = record {
+  channels = w .long;
+  items = w .places;
+  marked = m;
+  waiting = wait;
+  live = live;
+  half = half;
+  stored = stored;
+  last = last;
+}
+
+zeros-long : length (replicate 16 noTotals) ≡ 16
+zeros-long = length-replicate 16 noTotals
+
+unset-long : (n : ℕ) → length (replicate n false) ≡ n
+unset-long n = length-replicate n false
+
 module _ (run : Run) (S : Sized run) where
   pub wide : Wide (run .channels)
   wide = record { long = S .channels; places = S .items }
 
-  -- other channels
+  -- other channels, marks, waiting barriers
   pub with-channels : (l : List Channel) → Wide l → Sized (withChannels l run)
-  with-channels l w = record {
-    channels = w .long;
-    items = w .places;
-    marked = S .marked;
-    waiting = S .waiting;
-    live = S .live;
-    half = S .half;
-    stored = S .stored;
-    last = S .last;
-  }
+  with-channels l w = sized w (S .marked) (S .waiting) (S .live) (S .half) (S .stored) (S .last)
 
   pub with-marked : (l : List Bool) → length l ≡ 32 → Sized (withMarked l run)
-  with-marked l e = record {
-    channels = S .channels;
-    items = S .items;
-    marked = e;
-    waiting = S .waiting;
-    live = S .live;
-    half = S .half;
-    stored = S .stored;
-    last = S .last;
-  }
+  with-marked l e = sized wide e (S .waiting) (S .live) (S .half) (S .stored) (S .last)
 
   pub with-waiting : (l : List Bool) → length l ≡ 16 → Sized (withWaiting l run)
-  with-waiting l e = record {
-    channels = S .channels;
-    items = S .items;
-    marked = S .marked;
-    waiting = e;
-    live = S .live;
-    half = S .half;
-    stored = S .stored;
-    last = S .last;
-  }
+  with-waiting l e = sized wide (S .marked) e (S .live) (S .half) (S .stored) (S .last)
 
 pub fresh-sized : Sized freshRun
-fresh-sized = record {
-  channels = fresh-wide .long;
-  items = fresh-wide .places;
-  marked = length-replicate 32 false;
-  waiting = length-replicate 16 false;
-  live = length-replicate 16 noTotals;
-  half = length-replicate 16 noTotals;
-  stored = length-replicate 16 false;
-  last = length-replicate 16 noTotals;
-}
+fresh-sized = sized fresh-wide (unset-long 32) (unset-long 16) zeros-long zeros-long (unset-long 16) zeros-long
 
 module _ (job : Job) where
   completed-sized : (run : Run) → Sized run → Sized (completed job run .run)
   unfolding completed
   completed-sized run S =
       cond-has (λ (s : Stepped). Sized (s .run)) (run .«under_way» && allStored job (run .stored))
-      (λ _. record {
-        channels = S .channels;
-        items = S .items;
-        marked = S .marked;
-        waiting = S .waiting;
-        live = S .live;
-        half = length-replicate 16 noTotals;
-        stored = length-replicate 16 false;
-        last = S .half;
-      }) (λ _. S)
+      (λ _. sized (wide run S) (S .marked) (S .waiting) (S .live) zeros-long (unset-long 16) (S .half)) (λ _. S)
 
   stored-sized : (run : Run) (t : ℕ) → Sized run → Sized (storedBy job run t)
   unfolding storedBy
   stored-sized run t S =
-      let w = put-all-wide job t Barrier (run .channels) (wide run S) in
-      record {
-        channels = w .long;
-        items = w .places;
-        marked = S .marked;
-        waiting = S .waiting;
-        live = S .live;
-        half = length-set (run .half) t _ ∙ S .half;
-        stored = length-set (run .stored) t true ∙ S .stored;
-        last = S .last;
-      }
+      sized (put-all-wide job t Barrier (run .channels) (wide run S)) (S .marked) (S .waiting) (S .live)
+      (length-set (run .half) t _ ∙ S .half) (length-set (run .stored) t true ∙ S .stored) (S .last)
 
   taken-in-sized : (run : Run) (t : ℕ) (r : Record) → Sized run → Sized (takenIn job run t r)
   unfolding takenIn
   taken-in-sized run t r S =
-      let w = put-all-wide job t (Recorded r) (run .channels) (wide run S) in
-      record {
-        channels = w .long;
-        items = w .places;
-        marked = S .marked;
-        waiting = S .waiting;
-        live = length-set (run .live) t _ ∙ S .live;
-        half = S .half;
-        stored = S .stored;
-        last = S .last;
-      }
+      sized (put-all-wide job t (Recorded r) (run .channels) (wide run S)) (S .marked) (S .waiting)
+      (length-set (run .live) t _ ∙ S .live) (S .half) (S .stored) (S .last)
 
   pub unmarked-long : (l : List Bool) (t : ℕ) → length (unmarked job l t) ≡ length l
   unfolding unmarked
@@ -235,29 +191,14 @@ module _ (job : Job) where
   unfolding begun sourcesWait
   begun-sized run S =
       cond-has (λ (s : Stepped). Sized (s .run)) (run .«under_way») (λ _. S)
-      (λ _. record {
-        channels = S .channels;
-        items = S .items;
-        marked = S .marked;
-        waiting = length-places false _ (run .waiting) (job .tasks) ∙ S .waiting;
-        live = S .live;
-        half = length-replicate 16 noTotals;
-        stored = length-replicate 16 false;
-        last = S .last;
-      })
+      (λ _. sized (wide run S) (S .marked) (length-places false _ (run .waiting) (job .tasks) ∙ S .waiting) (S .live) zeros-long
+      (unset-long 16) (S .last))
 
 cut-sized : (run : Run) → Sized run → Sized (cutOff run)
 unfolding cutOff
-cut-sized run S = record {
-  channels = fresh-wide .long;
-  items = fresh-wide .places;
-  marked = length-replicate 32 false;
-  waiting = length-replicate 16 false;
-  live = cond-has (λ (l : List Totals). length l ≡ 16) (run .complete) (λ _. S .last) (λ _. length-replicate 16 noTotals);
-  half = length-replicate 16 noTotals;
-  stored = length-replicate 16 false;
-  last = S .last;
-}
+cut-sized run S =
+    sized fresh-wide (unset-long 32) (unset-long 16)
+    (cond-has (λ (l : List Totals). length l ≡ 16) (run .complete) (λ _. S .last) (λ _. zeros-long)) zeros-long (unset-long 16) (S .last)
 
 pub stepped-sized : (job : Job) (c v : List ℤ) (run : Run) (k : ℕ) → Sized run → Sized (stepped job c v run k .run)
 unfolding stepped
