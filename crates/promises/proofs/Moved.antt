@@ -36,7 +36,8 @@ use Rattle.step.specs.Outputs.{isFull, someFull, sourcesWait, putAll}
 use Rattle.step.specs.Algorithm.{answered, sealed, completed, storedBy, takenIn}
 use Rattle.step.specs.Step.{cutOff, lastOrNone}
 use Rattle.step.proofs.Fitting.{replicate-has}
-use Rattle.promises.proofs.Reading.{itemsOf, sourceOf, source-is, offsetIn, readWith, readRun, readOut, Sized, endOf, end-is, readJob}
+use Rattle.promises.proofs.Reading.{itemsOf, sourceOf, source-is, offsetIn, readWith, readRun, readOut, Sized, endOf, end-is}
+use Rattle.promises.proofs.Reading.{readJob}
 use Rattle.promises.proofs.Queued.{popped, rest-wide, fewer}
 use Rattle.promises.proofs.Held.{set-at, at-set, Queues, chansOf, itemsFor, put-all-items, pop-items}
 use Rattle.promises.proofs.Asked.{stored-is, emptied, counted-at, offset-more, offset-same, sources-wait}
@@ -85,7 +86,8 @@ module _ (job : Job) (cylinders values : List ℤ) (JF : JobFits job (length cyl
   unfolding takenIn
   read-is run t r S Q lt src room = λ i.
       readWith job run (λ c. put-all-items job t (Recorded r) (run .channels) Q few lt (roomy job (run .channels) t room) c i)
-      (λ v. counted-at (run .live) t (r .value) here v i) (λ v. offset-more job (run .live) t (r .value) here src v i) (flagAt (run .marked))
+      (λ v. counted-at (run .live) t (r .value) here v i) (λ v. offset-more job (run .live) t (r .value) here src v i)
+      (flagAt (run .marked))
     where
       here : t < length (run .live)
       here = omega (arith, S .live, few-tasks)
