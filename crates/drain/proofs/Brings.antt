@@ -1,9 +1,10 @@
--- WHAT A POSSIBLE STEP DOES: where one is possible something is left (`possible-left`), its task is one of the job's (`task-there`), and
--- where it brings a record the run after it is the one that the element stores make (`brings`).
+-- WHAT A POSSIBLE STEP DOES: where one is possible something is left (`possible-left`), and where it brings a record the run after it is
+-- the one that the element stores make (`brings`).
 use mathlib.Core.Path.{_≡_, refl, sym, ap, _∙_, subst}
 use mathlib.Core.Bool.{Bool, true, false, cond, not, _&&_, _||_, false≢true}
 use mathlib.Core.List.{List}
 use Prim.Native.Nat.{ℕ, _+_, _-_, _%_, _≤_, _<_}
+use native.Mathlib.Nat.{mod-eq-of-lt}
 use native.Mathlib.Omega.{arith}
 use lib.Dec.{eqb, ltb, leb}
 use lib.IntN.{ℤ, pos, natAbs}
@@ -33,9 +34,9 @@ use Rattle.step.proofs.Sources.{opened, given}
 use Rattle.step.proofs.Lent.{record-fits, inside-part, part-short}
 use Rattle.step.proofs.Sending.{set-self}
 use Rattle.drain.specs.Drains.{taskLeft, tasksLeft, channelsLeft, someLeft, possible}
-use Rattle.drain.specs.Ready.{headMoves, deliversBy, sourceOf, actsBy, taskBy, channelBy}
-use Rattle.drain.specs.InPlace.{broughtBy, leftOn}
-use Rattle.drain.proofs.Possible.{headOf, by-delivery, by-read, delivery-ready, source-ready}
+use Rattle.ready.specs.Ready.{headMoves, deliversBy, sourceOf, actsBy, taskBy, channelBy, headOf}
+use Rattle.ready.specs.Sending.{broughtBy, leftOn}
+use Rattle.drain.proofs.Possible.{by-delivery, by-read, delivery-ready, source-ready}
 use Rattle.drain.proofs.InPlace.{Delivers, delivers-says, Acts, acts-says}
 
 or-first : (a b c : Bool) → a ≡ true → a || b || c ≡ true
@@ -95,12 +96,11 @@ module _ (job : Job) (cs vs : List ℤ) (run : Run) (n : ℕ) (J : JobFits job (
   unfolding actsBy
   acts low high = acts-says _ _ _ _ (sym (source-ready job run cs vs n low high) ∙ p)
 
-  pub task-there : n < 64 → taskBy (job .to) n < job .tasks
-  task-there h = go (ltb n 32) refl
-    where
-      go : (b : Bool) → ltb n 32 ≡ b → cond b (toOf job n) (sourceOf n) < job .tasks
-      go true e = J .sends .sized .to-task n (leb-false (job .channels) n (delivers (ltb-true n 32 e) .there))
-      go false e = ltb-true (sourceOf n) (job .tasks) (acts (ltb-false n 32 e) h .is-there)
+  -- the channel's to-task is one of the job's, so below 16
+  to-same : n < 32 → toOf job n % 16 ≡ toOf job n
+  to-same l =
+      let S = J .sends .sized in
+      mod-eq-of-lt (omega (arith, S .to-task n (leb-false (job .channels) n (delivers l .there)), S .few-tasks))
 
   pub possible-left : n < 64 → someLeft job run ≡ true
   unfolding someLeft tasksLeft channelsLeft
@@ -188,8 +188,9 @@ module _ (job : Job) (cs vs : List ℤ) (run : Run) (n : ℕ) (J : JobFits job (
     where
       go : (a : Bool) → ltb n 32 ≡ a → (b : Bool) → ltb n 48 ≡ b → Brings job cs vs run n got
       go true p b q =
-          let x = delivered-brings (ltb-true n 32 p) got (simp p at e) in
-          record { room = simp p (x .0); fits = x .1; after = simp p (x .2) }
+          let l = ltb-true n 32 p in
+          let x = delivered-brings l got (simp p at e) in
+          record { room = simp (p, to-same l) (x .0); fits = x .1; after = simp (p, to-same l) (x .2) }
       go false p true q =
           let x = read-brings (ltb-false n 32 p) (ltb-true n 48 q) R in
           let t : n % 16 ≡ n - 32 = omega (arith, ltb-false n 32 p, ltb-true n 48 q) in

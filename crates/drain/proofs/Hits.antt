@@ -1,4 +1,4 @@
--- What the drain's own text computes, over plain variables: the search's test is `possible` (`delivery-hit`, `source-hit`), and its element
+-- What the drain's own text computes, over plain variables: the search's test is `possible` (`hit`), and its element
 -- stores are the record taken in (`stores-are`).
 use mathlib.Core.Path.{_≡_, refl, sym, ap, ap₂, _∙_}
 use mathlib.Core.Bool.{Bool, true, false, cond}
@@ -9,7 +9,7 @@ use native.Mathlib.Omega.{arith}
 use lib.Dec.{ltb, leb}
 use lib.IntN.{ℤ}
 use lib.ListN.{getD, set}
-use borrow.Author.Tests.{leb-false, ltb-true}
+use borrow.Author.Tests.{leb-false, ltb-true, ltb-false}
 use Rattle.tally.specs.declared.Record.{Record}
 use Rattle.tally.specs.declared.Totals.{Totals}
 use Rattle.tally.specs.Totals.{withValue}
@@ -20,50 +20,58 @@ use Rattle.job.specs.declared.Job.{Job}
 use Rattle.job.specs.Jobs.{JobSized, kindOf, bOf, toOf}
 use Rattle.run.specs.declared.Run.{Run}
 use Rattle.run.specs.Runs.{withChannels, withLive}
-use Rattle.run.specs.Fit.{channelAt, totalsAt, flagAt}
+use Rattle.run.specs.Fit.{channelAt, totalsAt, flagAt, Fits}
 use Rattle.step.specs.Outputs.{someFull, putAll}
 use Rattle.step.specs.Algorithm.{takenIn}
 use Rattle.step.proofs.Sending.{putTo}
 use Rattle.drain.specs.Drains.{possible}
-use Rattle.drain.specs.Ready.{deliversBy, sourceOf, actsBy, channelBy}
-use Rattle.drain.specs.InPlace.{broughtBy, leftOn}
-use Rattle.drain.proofs.Possible.{headOf, delivery-ready, source-ready}
-
-pub channel-small : (n : ℕ) → channelBy n < 32
-channel-small n = go (ltb n 32) refl
-  where
-    go : (b : Bool) → ltb n 32 ≡ b → cond b n 0 < 32
-    go true e = ltb-true n 32 e
-    go false e = omega arith
+use Rattle.ready.specs.Ready.{deliversBy, sourceOf, actsBy, taskBy, channelBy, headOf, possibleBy}
+use Rattle.ready.specs.Sending.{broughtBy, leftOn}
+use Rattle.drain.proofs.Possible.{delivery-ready, source-ready}
 
 module _ (job : Job) (cs vs : List ℤ) (run : Run) (full : List Bool)
     (noted : (u : ℕ) → getD full u false ≡ someFull job (run .channels) u) (n : ℕ) where
-  abbrev pub asked : ℕ → Bool
-  asked t =
-      deliversBy (job .to) (run .marked) (job .channels) n (channelAt run n .count) (headOf (channelAt run n)) (getD full (t % 16) false)
-      (totalsAt (run .live) (t % 16) .count)
+  abbrev asked : Bool
+  asked =
+      deliversBy (job .to) (run .marked) (job .channels) n (channelAt run n .count) (headOf (channelAt run n))
+      (getD full (toOf job n % 16) false) (totalsAt (run .live) (toOf job n % 16) .count)
 
-  pub delivery-hit : (t : ℕ) → JobSized job → n < 32 → channelAt run n .count ≤ 8 → t ≡ toOf job n → asked t ≡ possible job cs vs run n
+  delivery-hit : JobSized job → n < 32 → channelAt run n .count ≤ 8 → asked ≡ possible job cs vs run n
   unfolding deliversBy
-  delivery-hit t S l room e = go (leb (job .channels) n) refl
+  delivery-hit S l room = go (leb (job .channels) n) refl
     where
-      go : (b : Bool) → leb (job .channels) n ≡ b → asked t ≡ possible job cs vs run n
+      go : (b : Bool) → leb (job .channels) n ≡ b → asked ≡ possible job cs vs run n
       go true p = simp p (sym (simp p at (delivery-ready job run cs vs n l room)))
       go false p =
           let small = S .to-task n (leb-false (job .channels) n p) in
-          let u : t % 16 ≡ toOf job n = mod-eq-of-lt (omega (arith, small, S .few-tasks, e)) ∙ e in
+          let u : toOf job n % 16 ≡ toOf job n = mod-eq-of-lt (omega (arith, small, S .few-tasks)) in
           ap₂ (λ f x. deliversBy (job .to) (run .marked) (job .channels) n (channelAt run n .count) (headOf (channelAt run n)) f x)
-          (noted (t % 16) ∙ ap (someFull job (run .channels)) u) (ap (λ k. totalsAt (run .live) k .count) u)
+          (noted (toOf job n % 16) ∙ ap (someFull job (run .channels)) u) (ap (λ k. totalsAt (run .live) k .count) u)
           ∙ sym (delivery-ready job run cs vs n l room)
 
-  pub source-hit : (t : ℕ) (b : ℤ) → 32 ≤ n → n < 64 → t ≡ sourceOf n → b ≡ bOf job t
-      → actsBy n (ltb t (job .tasks)) (kindOf job t) b (totalsAt (run .live) t .count) (flagAt (run .waiting) t) (getD full t false)
-      ≡ possible job cs vs run n
-  source-hit t b low high e q =
-      ap₂ (λ x f. actsBy n (ltb t (job .tasks)) (kindOf job t) x (totalsAt (run .live) t .count) (flagAt (run .waiting) t) f) q (noted t)
-      ∙ ap (λ k. actsBy n (ltb k (job .tasks)) (kindOf job k) (bOf job k) (totalsAt (run .live) k .count) (flagAt (run .waiting) k)
-      (someFull job (run .channels) k)) e
+  source-hit : 32 ≤ n → n < 64 → (let t = sourceOf n in
+      actsBy n (ltb t (job .tasks)) (kindOf job t) (bOf job t) (totalsAt (run .live) t .count) (flagAt (run .waiting) t) (getD full t false)
+      ≡ possible job cs vs run n)
+  source-hit low high =
+      let t = sourceOf n in
+      ap (λ f. actsBy n (ltb t (job .tasks)) (kindOf job t) (bOf job t) (totalsAt (run .live) t .count) (flagAt (run .waiting) t) f) (noted t)
       ∙ sym (source-ready job run cs vs n low high)
+
+  pub hit : JobSized job → Fits job run → n < 64 → (x : ℕ) (ch : Channel) → x ≡ totalsAt (run .live) (taskBy (job .to) n) .count
+      → ch ≡ channelAt run (channelBy n)
+      → possibleBy (job .to) (job .kinds) (job .b) (run .marked) (run .waiting) full (job .channels) (job .tasks) n x ch
+      ≡ possible job cs vs run n
+  unfolding possibleBy
+  hit S F h x ch p q =
+      ap₂ (λ y d. possibleBy (job .to) (job .kinds) (job .b) (run .marked) (run .waiting) full (job .channels) (job .tasks) n y d) p q
+      ∙ go (ltb n 32) refl
+    where
+      go : (b : Bool) → ltb n 32 ≡ b
+          → possibleBy (job .to) (job .kinds) (job .b) (run .marked) (run .waiting) full (job .channels) (job .tasks) n
+          (totalsAt (run .live) (taskBy (job .to) n) .count) (channelAt run (channelBy n))
+          ≡ possible job cs vs run n
+      go true e = simp e (delivery-hit S (ltb-true n 32 e) (F .channels n (ltb-true n 32 e) .room))
+      go false e = simp e (source-hit (ltb-false n 32 e) h)
 
 pub brought-same : (cs vs : List ℤ) (n : ℕ) (head head′ : Cargo) (a a′ : ℤ) (offset offset′ : ℕ) → head ≡ head′ → a ≡ a′ → offset ≡ offset′
     → broughtBy cs vs n head a offset ≡ broughtBy cs vs n head′ a′ offset′

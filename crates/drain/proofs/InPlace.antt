@@ -23,7 +23,9 @@ use Rattle.run.specs.Fit.{channelAt}
 use Rattle.step.specs.Outputs.{isFull}
 use Rattle.step.specs.Parts.{carriedBy}
 use Rattle.step.proofs.Sending.{putTo, put-here, not-here}
-use Rattle.drain.specs.InPlace.{fullTo, outputsBy}
+use Rattle.ready.specs.Ready.{notedBy}
+use Rattle.ready.specs.Sending.{outputsBy}
+use Rattle.drain.specs.InPlace.{fullTo}
 
 -- ---- the tasks with a full output
 or-false : (b : Bool) → b ≡ b || false
@@ -65,12 +67,10 @@ module _ (job : Job) (held : List Channel) where
           let ne : fromOf job k ≡ u → ⊥ = eqb-false (fromOf job k) u q in
           getD-set-other (fullTo job held k) (fromOf job k) u _ false (λ e. ne (sym e)) ∙ ih ∙ or-false (some (fullOf u) k)
 
-  pub full-more : (k : ℕ) {full : List Bool} {x : Bool} → full ≡ fullTo job held k
-      → x ≡ getD full (fromOf job k) false || isFull (getD held k noChannel) → set full (fromOf job k) x ≡ fullTo job held (k + 1)
+  pub full-more : (k : ℕ) {full : List Bool} → full ≡ fullTo job held k
+      → notedBy full (job .from) k (getD held k noChannel .count) ≡ fullTo job held (k + 1)
   unfolding fullTo
-  full-more k e q =
-      let t = fromOf job k in
-      rw add-one (ap₂ (λ l x. set l t x) e (q ∙ ap (λ (l : List Bool). getD l t false || isFull (getD held k noChannel)) e))
+  full-more k e = rw add-one (ap (λ (l : List Bool). notedBy l (job .from) k (getD held k noChannel .count)) e)
 
 -- ---- outputs counted by the column are the job's
 pub outputs-place : (job : Job) (t n : ℕ) → outputsBy (job .from) t n ≡ placeOf job t n

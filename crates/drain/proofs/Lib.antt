@@ -1,10 +1,8 @@
--- The laws of lists and drains.
---   Listing           a list of steps keeps a run fitting, and counts at most its steps
+-- The laws of the drain.
 --   Draining          the search for the lowest possible step, and one turn of the drain
 --   Possible          a step is possible exactly when its parts say so
 --   InPlace, Brings   a read or a delivery of a record done in place is the step's own
 --   Hits              what the drain's text computes, over plain variables
-pub mod Listing
 pub mod Draining
 pub mod Possible
 pub mod InPlace

@@ -6,12 +6,12 @@ use Prim.Native.Nat.{ℕ, _-_, _%_, _≤_, _<_}
 use native.Mathlib.Omega.{arith}
 use lib.Dec.{eqb, ltb, leb}
 use lib.IntN.{ℤ, natAbs}
-use lib.ListN.{getD, set}
+use lib.ListN.{set}
 use borrow.Author.Tests.{lt-ltb, le-ltb, leb-true, leb-false, ltb-true, ltb-false}
 use Rattle.channel.specs.declared.Cargo.{Cargo}
 use Rattle.channel.specs.declared.Cargo.the-variants.{Barrier, Record as Recorded}
 use Rattle.channel.specs.declared.Channel.{Channel}
-use Rattle.channel.specs.Channels.{barrier, withoutHead}
+use Rattle.channel.specs.Channels.{withoutHead}
 use Rattle.job.specs.declared.Job.{Job}
 use Rattle.job.specs.Jobs.{kindOf, bOf, toOf, isSource}
 use Rattle.run.specs.declared.Run.{Run}
@@ -22,9 +22,9 @@ use Rattle.step.specs.Parts.{allMarkedBy}
 use Rattle.step.specs.Algorithm.{answered, completed, barrierReceived, recordReceived}
 use Rattle.step.specs.Step.{withCargo, withTaken, delivered, isNoSource, offsetOf, sourceRead, barrierSent, stepped}
 use Rattle.step.proofs.Fitting.{cond-has}
-use Rattle.drain.specs.Lists.{isDone}
+use Rattle.lists.specs.Lists.{isDone}
 use Rattle.drain.specs.Drains.{possible}
-use Rattle.drain.specs.Ready.{headMoves, deliversBy, sourceOf, actsBy}
+use Rattle.ready.specs.Ready.{headMoves, deliversBy, sourceOf, actsBy, headOf}
 
 -- ---- tests turned round
 pub ltb-not : (a b : ℕ) → ltb a b ≡ not (leb b a)
@@ -33,9 +33,6 @@ ltb-not a b = go (leb b a) refl
     go : (t : Bool) → leb b a ≡ t → ltb a b ≡ not t
     go true e = le-ltb a b (leb-true b a e)
     go false e = lt-ltb a b (leb-false b a e)
-
-abbrev pub headOf : Channel → Cargo
-headOf ch = getD (ch .items) 0 barrier .cargo
 
 -- ---- the answers, over plain tests
 barrier-plain : (marks full : Bool) (run next : Run) (s : Stepped) → isDone (s .answer) ≡ true

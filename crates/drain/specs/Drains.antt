@@ -13,7 +13,7 @@ use Rattle.job.specs.Jobs.{kindOf, bOf}
 use Rattle.run.specs.declared.Run.{Run}
 use Rattle.run.specs.Fit.{channelAt, flagAt}
 use Rattle.step.specs.Step.{stepped, offsetOf}
-use Rattle.drain.specs.Lists.{isDone}
+use Rattle.lists.specs.Lists.{isDone}
 use Rattle.drain.specs.declared.Drained.{Drained}
 
 -- ---- what is left: "parts read out, channels empty, no barrier waiting, no snapshot under way"

@@ -30,7 +30,7 @@ use Rattle.step.specs.Outputs.{putAll, allStored, unmarked, sourcesWait}
 use Rattle.step.specs.Algorithm.{answered, sealed, completed, storedBy, barrierReceived, takenIn, recordReceived}
 use Rattle.step.specs.Step.{withCargo, offsetOf, nextRecord, sourceRead, barrierSent, begun, cutOff, stepped}
 use Rattle.step.proofs.Places.{place-at, place-past}
-use Rattle.drain.specs.declared.Listed.{Listed}
+use Rattle.lists.specs.declared.Listed.{Listed}
 use Rattle.station.specs.Entries.{entry, stepOn, stepsOn}
 use Rattle.station.proofs.Admission.{admitted}
 use Rattle.step.specs.Handlers.{Sized, Head, Open, Full, Completes, Source, HeadTaken, Sent, Received, Marked, Passed, Sealed}

@@ -31,7 +31,7 @@ use Rattle.step.specs.Step.{withCargo, delivered, isNoSource, offsetOf, sourceR
 use Rattle.step.proofs.Fitting.{cond-has}
 use Rattle.step.proofs.Sources.{source-is}
 use Rattle.step.proofs.Keeps.{stepped-fits}
-use Rattle.drain.specs.Lists.{isDone}
+use Rattle.lists.specs.Lists.{isDone}
 use Rattle.drain.specs.Drains.{someLeft, possible, firstFrom, lowest, drainedOf}
 use Rattle.station.specs.Entries.{entry, stepOn, stepsOn, drainOn}
 use Rattle.station.proofs.Admission.{admitted}

@@ -37,7 +37,7 @@ use Rattle.step.specs.Step.{stepped}
 use Rattle.step.proofs.Fitting.{replicate-has}
 use Rattle.step.proofs.Keeps.{stepped-fits}
 use Rattle.step.proofs.Refused.{refused-same}
-use Rattle.drain.specs.Lists.{isDone}
+use Rattle.lists.specs.Lists.{isDone}
 use Rattle.promises.proofs.Reading.{readRun, readOut, readJob, Sized, sourceOf, itemsOf, end-out}
 use Rattle.promises.proofs.Noted.{wasDone, wasEnded}
 use Rattle.promises.proofs.Bridge.{fresh-sized, stepped-sized, run-tame, step-read}

@@ -15,7 +15,7 @@ use Rattle.run.specs.Fit.{runFits, channelsFit, tasksFit, taskFits, limitOf, to
 use Rattle.step.specs.Outputs.{someFull, allMarked, allStored, eachPlace, unmarked, sourcesWait, putOn, putAll}
 use Rattle.step.specs.Algorithm.{completed, storedBy, barrierReceived, takenIn, recordReceived}
 use Rattle.step.specs.Step.{withTaken, delivered, isNoSource, nextRecord, sourceRead, barrierSent, begun, cutOff, stepped}
-use Rattle.drain.specs.Lists.{listedTo}
+use Rattle.lists.specs.Lists.{listedTo}
 use Rattle.drain.specs.Drains.{tasksLeft, channelsLeft, someLeft, possible, firstFrom, lowest, drainedOf}
 use Rattle.station.specs.Entries.{admittedOf, stepOn, stepsOn, drainOn}
 use Rattle.promises.specs.Table.{SingleTable}

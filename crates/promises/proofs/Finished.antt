@@ -30,7 +30,7 @@ use Rattle.run.specs.Fit.{channelAt, flagAt}
 use Rattle.step.specs.declared.Stepped.{Stepped}
 use Rattle.step.specs.Step.{offsetOf}
 use Rattle.drain.specs.declared.Drained.{Drained}
-use Rattle.drain.specs.Lists.{isDone}
+use Rattle.lists.specs.Lists.{isDone}
 use Rattle.drain.specs.Drains.{taskLeft, tasksLeft, channelsLeft, someLeft, possible, ended}
 use Rattle.station.specs.Entries.{stepOn, drainOn}
 use Rattle.promises.specs.Grown.{afterSteps, grown, overSteps, wholeParts}

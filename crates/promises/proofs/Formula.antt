@@ -24,7 +24,7 @@ use Rattle.job.specs.Rules.{jobAnswer}
 use Rattle.direct.specs.Direct.{receivedBy}
 use Rattle.run.specs.Runs.{freshRun}
 use Rattle.drain.specs.declared.Drained.{Drained}
-use Rattle.drain.specs.Lists.{isDone}
+use Rattle.lists.specs.Lists.{isDone}
 use Rattle.station.specs.Entries.{stepOn, drainOn}
 use Rattle.promises.specs.Grown.{grown, stepsDone, snapshotsBegun, wholeParts, recordsRead, recordsSent, sourcesOf}
 use Rattle.promises.specs.Promises.{StepFormula}

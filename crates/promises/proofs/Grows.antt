@@ -28,8 +28,8 @@ use Rattle.run.specs.Fit.{Fits, TotalsFit}
 use Rattle.run.proofs.Clauses.{fits-exact}
 use Rattle.step.specs.declared.Stepped.{Stepped}
 use Rattle.step.proofs.Fitting.{replicate-has}
-use Rattle.drain.specs.declared.Listed.{Listed}
-use Rattle.drain.specs.Lists.{isDone}
+use Rattle.lists.specs.declared.Listed.{Listed}
+use Rattle.lists.specs.Lists.{isDone}
 use Rattle.drain.specs.declared.Drained.{Drained}
 use Rattle.drain.specs.Drains.{possible, lowest, drainedOf}
 use Rattle.station.specs.Entries.{stepOn, stepsOn, drainOn}

@@ -18,8 +18,8 @@ use Rattle.run.specs.Fit.{Fits}
 use Rattle.step.specs.declared.Stepped.{Stepped}
 use Rattle.step.specs.Step.{stepped}
 use Rattle.step.proofs.Keeps.{stepped-fits}
-use Rattle.drain.specs.declared.Listed.{Listed}
-use Rattle.drain.specs.Lists.{isDone, listedTo}
+use Rattle.lists.specs.declared.Listed.{Listed}
+use Rattle.lists.specs.Lists.{isDone, listedTo}
 use Rattle.station.specs.Entries.{stepOn}
 use Rattle.promises.specs.Grown.{afterSteps, overSteps}
 

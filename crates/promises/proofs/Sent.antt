@@ -33,7 +33,7 @@ use Rattle.run.specs.declared.Run.{Run}
 use Rattle.run.specs.Runs.{freshRun}
 use Rattle.run.specs.Fit.{channelAt}
 use Rattle.step.specs.Step.{nextRecord, offsetOf}
-use Rattle.drain.specs.Lists.{isDone}
+use Rattle.lists.specs.Lists.{isDone}
 use Rattle.station.specs.Entries.{stepOn}
 use Rattle.promises.specs.Grown.{grown, asRecord, recordsOf, brought, broughtTo, sentOn, deliveredFrom, recordsIn}
 use Rattle.promises.specs.Promises.{Conserved}

@@ -26,7 +26,7 @@ use Rattle.run.specs.declared.Run.{Run}
 use Rattle.run.specs.Fit.{channelAt, flagAt}
 use Rattle.step.specs.Step.{offsetOf}
 use Rattle.drain.specs.declared.Drained.{Drained}
-use Rattle.drain.specs.Lists.{isDone}
+use Rattle.lists.specs.Lists.{isDone}
 use Rattle.drain.specs.Drains.{taskLeft, tasksLeft, channelsLeft, someLeft, possible, firstFrom, lowest}
 use Rattle.drain.specs.Drains.{ended as endedWith}
 use Rattle.promises.proofs.Reading.{itemsOf, partOf, source-is}

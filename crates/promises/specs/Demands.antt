@@ -25,7 +25,7 @@ use Rattle.step.specs.Algorithm.{answered}
 use Rattle.step.specs.Step.{offsetOf, nextRecord}
 use Rattle.step.specs.Handlers.{Head, Source, Open, Full, Completes, Refused, HeadTaken, Received, Marked, Passed, Sealed}
 use Rattle.drain.specs.declared.Drained.{Drained}
-use Rattle.drain.specs.Lists.{isDone}
+use Rattle.lists.specs.Lists.{isDone}
 use Rattle.drain.specs.Drains.{someLeft, ended}
 use Rattle.station.specs.Entries.{entry, stepOn, stepsOn, drainOn}
 use Rattle.promises.specs.Grown.{afterSteps, overSteps}

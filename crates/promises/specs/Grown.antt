@@ -22,7 +22,7 @@ use Rattle.run.specs.declared.Run.{Run}
 use Rattle.run.specs.Runs.{freshRun}
 use Rattle.run.specs.Fit.{channelAt}
 use Rattle.step.specs.Step.{offsetOf, nextRecord}
-use Rattle.drain.specs.Lists.{isDone}
+use Rattle.lists.specs.Lists.{isDone}
 use Rattle.station.specs.Entries.{stepOn}
 
 -- the run after some steps, done or refused, one call after another

@@ -14,7 +14,7 @@ use Rattle.job.specs.Rules.{jobAnswer}
 use Rattle.job.specs.Table.{station, passes, chain, fedByItself}
 use Rattle.direct.specs.Direct.{directedOf}
 use Rattle.run.specs.Runs.{freshRun}
-use Rattle.drain.specs.declared.Listed.{Listed}
+use Rattle.lists.specs.declared.Listed.{Listed}
 use Rattle.station.specs.Entries.{stepOn, stepsOn, drainOn}
 
 abbrev of : ℕ → ℤ → ℤ → ℤ → Totals

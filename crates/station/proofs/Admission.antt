@@ -21,7 +21,7 @@ use Rattle.run.specs.Fit.{runFits, Fits}
 use Rattle.run.proofs.Clauses.{clauses}
 use Rattle.step.specs.Algorithm.{answered}
 use Rattle.step.specs.Step.{stepped}
-use Rattle.drain.specs.Lists.{listedTo}
+use Rattle.lists.specs.Lists.{listedTo}
 use Rattle.drain.specs.Drains.{ended, drainedOf}
 use Rattle.station.specs.Entries.{admittedOf, entry, stepOn, stepsOn, drainOn}
 

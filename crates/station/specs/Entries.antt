@@ -16,9 +16,9 @@ use Rattle.run.specs.Fit.{runFits}
 use Rattle.step.specs.declared.Stepped.{Stepped}
 use Rattle.step.specs.Algorithm.{answered}
 use Rattle.step.specs.Step.{stepped}
-use Rattle.drain.specs.declared.Listed.{Listed}
+use Rattle.lists.specs.declared.Listed.{Listed}
 use Rattle.drain.specs.declared.Drained.{Drained}
-use Rattle.drain.specs.Lists.{listedTo}
+use Rattle.lists.specs.Lists.{listedTo}
 use Rattle.drain.specs.Drains.{ended, drainedOf}
 
 -- 1 to 9, then 16, then 0; the job by value beside it

@@ -7,8 +7,8 @@ ghost use Rattle.direct.specs.Direct.{directedOf};
 ghost use Rattle.station.specs.Entries.{admittedOf, stepWith, stepsOn, drainOn};
 use direct::Directed;
 use drain::Drained;
-use drain::Listed;
 use job::Checked;
+use lists::Listed;
 use run::Run;
 use step::Stepped;
 
@@ -113,7 +113,7 @@ pub fn steps(
         };
     }
     let job = c.job;
-    drain::steps(job, cylinders, values, run, numbers)
+    lists::steps(job, cylinders, values, run, numbers)
 }
 
 // A drain with a limit.

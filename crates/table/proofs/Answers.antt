@@ -11,7 +11,7 @@ use Rattle.job.specs.Columns.{Columns}
 use Rattle.job.specs.Rules.{jobAnswer}
 use Rattle.job.proofs.Fine.{fine1}
 use Rattle.job.proofs.Exact.{all-off, fine-of}
-use Rattle.drain.specs.declared.Listed.{Listed}
+use Rattle.lists.specs.declared.Listed.{Listed}
 use Rattle.drain.specs.declared.Drained.{Drained}
 use Rattle.station.specs.Entries.{drainOn}
 use Rattle.text.specs.Rows.{refusalOf}

@@ -16,7 +16,7 @@ use lib.ListN.{length, getD}
 use Rattle.job.specs.Columns.{Columns}
 use Rattle.run.specs.declared.Run.{Run}
 use Rattle.run.specs.Runs.{freshRun}
-use Rattle.drain.specs.declared.Listed.{Listed}
+use Rattle.lists.specs.declared.Listed.{Listed}
 use Rattle.drain.specs.declared.Drained.{Drained}
 use Rattle.station.specs.Entries.{stepOn}
 use Rattle.text.specs.Decimals.{digitsIn, digits, decimal}

@@ -8,7 +8,7 @@ ghost use Rattle.table.specs.Tables.{Writes};
 ghost use Rattle.table.specs.Traces.{stepWord, countRow, stepRows, shownOf, stateOf, afterSteps, afterDrain};
 use crate::lines::put_lines;
 use drain::Drained;
-use drain::Listed;
+use lists::Listed;
 use run::Run;
 use text::rows::put_row;
 

@@ -1,0 +1,2 @@
+-- "A list of steps is done in order."
+pub mod Lists
