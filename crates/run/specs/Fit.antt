@@ -21,7 +21,7 @@ use Rattle.channel.specs.declared.Channel.{Channel}
 use Rattle.channel.specs.Channels.{barrier}
 use Rattle.job.specs.declared.Job.{Job}
 use Rattle.job.specs.Tests.{every}
-use Rattle.job.specs.Jobs.{bOf, isSource}
+use Rattle.job.specs.Jobs.{kindOf, bOf, isSource}
 use Rattle.run.specs.declared.Run.{Run}
 use Rattle.run.specs.Runs.{noChannel}
 
@@ -98,8 +98,12 @@ unfoldable pub totalsFit : Totals → ℕ → Bool
 totalsFit x limit =
     leb (x .count) limit && (sumFits (x .sum) (x .count) && (not (eqb (x .count) 0) || isZero (x .least) && isZero (x .greatest)))
 
+-- of a task that is there or not, by its kind and b
+abbrev pub limitBy : Bool → ℕ → ℤ → ℕ
+limitBy there kind b = cond there (cond (eqb kind 0) (natAbs b) 1048576) 0
+
 unfoldable pub limitOf : Job → ℕ → ℕ
-limitOf job t = cond (ltb t (job .tasks)) (cond (isSource job t) (natAbs (bOf job t)) 1048576) 0
+limitOf job t = limitBy (ltb t (job .tasks)) (kindOf job t) (bOf job t)
 
 -- "held only for tasks .. that the job has", and "a barrier waits only at sources"
 abbrev pub flagsFit : Bool → Bool → Bool → Bool → Bool

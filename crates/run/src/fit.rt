@@ -1,8 +1,11 @@
 // Whether a run fits a job (answer 16), for any run whatever.
 ghost use mathlib.Core.Path.{_≡_};
-ghost use Prim.Native.Nat.{_<_, _≤_};
+ghost use mathlib.Core.Bool.{true};
+ghost use Prim.Native.Nat.{_≤_};
+ghost use lib.IntN.{pos};
+ghost use Rattle.kinds.specs.Kinds.{within};
 ghost use Rattle.job.specs.Jobs.{JobSized};
-ghost use Rattle.run.specs.Fit.{cargoFits, channelFits, placeFits, channelsFit, sumFits, totalsFit, limitOf, flagsFit, taskFits, tasksFit, runFits};
+ghost use Rattle.run.specs.Fit.{cargoFits, channelFits, placeFits, channelsFit, sumFits, totalsFit, limitBy, flagsFit, tasksFit, runFits};
 use crate::Run;
 use channel::Cargo;
 use channel::Channel;
@@ -80,15 +83,15 @@ fn totals_fit(x: Totals, limit: u32) -> bool
 }
 
 // The most that a task may have counted; nothing where the job lacks the task.
-fn limit_of(job: Job, t: usize) -> u32
-    requires { ⌜ (t < 16) × JobSized job ⌝ }
-    ensures { λ r. ⌜ r ≡ limitOf job t ⌝ }
+fn limit_of(there: bool, kind: u8, b: i32) -> u32
+    requires { ⌜ (there ≡ true → kind ≡ 0 → within (pos 0) b (pos 4096) ≡ true) ⌝ }
+    ensures { λ r. ⌜ r ≡ limitBy there kind b ⌝ }
 {
-    if job.tasks <= t {
+    if !there {
         return 0;
     }
-    if job.kinds[t] == 0 {
-        return job.b[t] as u32;
+    if kind == 0 {
+        return b as u32;
     }
     1048576
 }
@@ -99,21 +102,6 @@ fn flags_fit(task: bool, source: bool, stored: bool, waiting: bool) -> bool
     (task | !stored) & (!waiting | (task & source))
 }
 
-fn task_fits(job: Job, run: Run, t: usize) -> bool
-    requires { ⌜ (t < 16) × JobSized job ⌝ }
-    ensures { λ r. ⌜ r ≡ taskFits job run t ⌝ }
-{
-    let limit = limit_of(job, t);
-    let live = run.live[t];
-    let half = run.half[t];
-    let last = run.last[t];
-    let source = job.kinds[t] == 0;
-    flags_fit(t < job.tasks, source, run.stored[t], run.waiting[t])
-        & totals_fit(live, limit)
-        & totals_fit(half, limit)
-        & totals_fit(last, limit)
-}
-
 fn tasks_fit(job: Job, run: Run) -> bool
     requires { ⌜ JobSized job ⌝ }
     ensures { λ r. ⌜ r ≡ tasksFit job run ⌝ }
@@ -121,7 +109,17 @@ fn tasks_fit(job: Job, run: Run) -> bool
     let mut all = true;
     let mut t: usize = 0;
     while t < 16 {
-        all = all & task_fits(job, run, t);
+        let there = t < job.tasks;
+        let kind = job.kinds[t];
+        let limit = limit_of(there, kind, job.b[t]);
+        let live = run.live[t];
+        let half = run.half[t];
+        let last = run.last[t];
+        let fits = flags_fit(there, kind == 0, run.stored[t], run.waiting[t])
+            & totals_fit(live, limit)
+            & totals_fit(half, limit)
+            & totals_fit(last, limit);
+        all = all & fits;
         t += 1;
     }
     all
