@@ -7,7 +7,7 @@ ghost use lib.IntN.{natAbs, pos};
 ghost use lib.ListN.{length};
 ghost use Rattle.kinds.specs.Kinds.{within};
 ghost use Rattle.job.specs.Columns.{recordAt, RecordsFit};
-ghost use Rattle.job.specs.Jobs.{isOutput, placeOf};
+ghost use Rattle.job.specs.Jobs.{placeOf};
 ghost use Rattle.job.specs.Graph.{sentBy, sentOver};
 ghost use Rattle.job.specs.Fits.{Sends};
 use crate::Job;
@@ -19,13 +19,6 @@ pub fn names(end: u8, t: usize) -> bool
     ensures { λ r. ⌜ r ≡ eqb end t ⌝ }
 {
     end as usize == t
-}
-
-pub fn is_output(job: Job, t: usize, c: usize) -> bool
-    requires { ⌜ c < 32 ⌝ }
-    ensures { λ r. ⌜ r ≡ isOutput job t c ⌝ }
-{
-    names(job.from[c], t)
 }
 
 // How many of the channels below `n` are outputs of the task: the place of channel `n` among them.
