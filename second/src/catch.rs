@@ -86,7 +86,7 @@ pub fn own_outputs(text: &[u8]) -> (Vec<u8>, Vec<u8>) {
 }
 
 /// The cheap kinds first: the others are tried only for faults that are still silent.
-const ORDER: [&str; 6] = ["accepted", "broken", "jobs", "limits", "long", "heavy"];
+const ORDER: [&str; 5] = ["accepted", "broken", "jobs", "limits", "heavy"];
 
 /// For each fault a case on which this program with the fault differs from the other program; the other program is run on that
 /// very case, and has to print what this one prints without a fault. True when every fault was caught.

@@ -201,7 +201,7 @@ fn refused_evaluations(tally: &mut Tally) {
 /// The promises on generated cases: every complete snapshot, every drain, the step formula.
 fn generated(tally: &mut Tally) {
     let mut completed = 0;
-    for (kind, count) in [("accepted", 500), ("limits", 60), ("long", 6)] {
+    for (kind, count) in [("accepted", 500), ("limits", 120)] {
         for seed in 0..count {
             let bytes = cases::generate(kind, seed).unwrap_or_default();
             let text = text::read(&bytes, Fault::None).unwrap_or_default();

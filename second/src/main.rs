@@ -32,7 +32,7 @@ const USAGE: &str = "usage:
   second catch --totals CMD --trace CMD --from SEED --count N
   second faults
   second check
-kinds: accepted long broken jobs limits heavy";
+kinds: accepted broken jobs limits heavy";
 
 fn main() -> ExitCode {
     let words: Vec<String> = std::env::args().skip(1).collect();

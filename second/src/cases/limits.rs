@@ -1,13 +1,17 @@
-//! Values, parameters, parts and steps at the ends of what is allowed.
+//! Values, parameters, parts, steps and texts at the ends of what is allowed.
 
 use super::graph::{self, channel, extreme_value, pass, source, Shape};
-use super::mixed::with_steps;
+use super::mixed::{filled, with_steps};
 use super::steps::noise;
 use crate::job::{Job, Record, Task, RANGE, SCALE, SPREAD};
 use crate::random::Random;
 use crate::text::{Text, LONGEST};
 
 pub fn text(random: &mut Random) -> Text {
+    // Thousands of steps take their time: a few of these are enough.
+    if random.chance(1, 25) {
+        return filled(random);
+    }
     let mut text = match random.below(10) {
         0 => {
             let job = longest_parts(random);

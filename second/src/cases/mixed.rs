@@ -38,7 +38,7 @@ pub fn with_steps(random: &mut Random, job: Job, steps: usize) -> Text {
 }
 
 /// Enough records for a list of steps that ends near the text's limit.
-pub fn long(random: &mut Random) -> Text {
+pub fn filled(random: &mut Random) -> Text {
     let shape = Shape {
         tasks: random.pick(&[4, 8, 12, 16]),
         records: random.pick(&[150, 300, 600]),
