@@ -25,14 +25,14 @@ use Rattle.job.proofs.Tests.{one-some}
 use Rattle.run.specs.declared.Run.{Run}
 use Rattle.run.specs.Runs.{noChannel, withChannels}
 use Rattle.run.specs.Fit.{channelAt, totalsAt, flagAt, cargoFits, Fits}
+use Rattle.outputs.specs.Outputs.{someFull}
+use Rattle.outputs.proofs.Sending.{set-self}
 use Rattle.step.specs.declared.Stepped.{Stepped}
-use Rattle.step.specs.Outputs.{someFull}
 use Rattle.step.specs.Algorithm.{answered, takenIn, recordReceived}
 use Rattle.step.specs.Step.{isNoSource, offsetOf, nextRecord, sourceRead, stepped}
 use Rattle.step.proofs.Rooms.{has-room}
 use Rattle.step.proofs.Sources.{opened, given}
 use Rattle.step.proofs.Lent.{record-fits, inside-part, part-short}
-use Rattle.step.proofs.Sending.{set-self}
 use Rattle.drain.specs.Drains.{taskLeft, tasksLeft, channelsLeft, someLeft, possible}
 use Rattle.ready.specs.Ready.{headMoves, deliversBy, sourceOf, actsBy, taskBy, channelBy, headOf}
 use Rattle.ready.specs.Sending.{broughtBy, leftOn}

@@ -21,9 +21,9 @@ use Rattle.job.specs.Jobs.{JobSized, kindOf, bOf, toOf}
 use Rattle.run.specs.declared.Run.{Run}
 use Rattle.run.specs.Runs.{withChannels, withLive}
 use Rattle.run.specs.Fit.{channelAt, totalsAt, flagAt, Fits}
-use Rattle.step.specs.Outputs.{someFull, putAll}
+use Rattle.outputs.specs.Outputs.{someFull, putAll}
+use Rattle.outputs.proofs.Sending.{putTo}
 use Rattle.step.specs.Algorithm.{takenIn}
-use Rattle.step.proofs.Sending.{putTo}
 use Rattle.drain.specs.Drains.{possible}
 use Rattle.ready.specs.Ready.{deliversBy, sourceOf, actsBy, taskBy, channelBy, headOf, possibleBy}
 use Rattle.ready.specs.Sending.{broughtBy, leftOn}

@@ -20,9 +20,9 @@ use Rattle.job.specs.Jobs.{kindOf, aOf, bOf, fromOf, isOutput, placeOf}
 use Rattle.run.specs.declared.Run.{Run}
 use Rattle.run.specs.Runs.{noChannel, withChannels}
 use Rattle.run.specs.Fit.{channelAt}
-use Rattle.step.specs.Outputs.{isFull}
-use Rattle.step.specs.Parts.{carriedBy}
-use Rattle.step.proofs.Sending.{putTo, put-here, not-here}
+use Rattle.outputs.specs.Outputs.{isFull}
+use Rattle.outputs.specs.Parts.{carriedBy}
+use Rattle.outputs.proofs.Sending.{putTo, put-here, not-here}
 use Rattle.ready.specs.Ready.{notedBy}
 use Rattle.ready.specs.Sending.{outputsBy}
 use Rattle.drain.specs.InPlace.{fullTo}

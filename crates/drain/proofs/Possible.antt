@@ -16,9 +16,9 @@ use Rattle.job.specs.declared.Job.{Job}
 use Rattle.job.specs.Jobs.{kindOf, bOf, toOf, isSource}
 use Rattle.run.specs.declared.Run.{Run}
 use Rattle.run.specs.Fit.{channelAt, totalsAt, flagAt}
+use Rattle.outputs.specs.Outputs.{someFull, allMarked, allStored}
+use Rattle.outputs.specs.Parts.{allMarkedBy}
 use Rattle.step.specs.declared.Stepped.{Stepped}
-use Rattle.step.specs.Outputs.{someFull, allMarked, allStored}
-use Rattle.step.specs.Parts.{allMarkedBy}
 use Rattle.step.specs.Algorithm.{answered, completed, barrierReceived, recordReceived}
 use Rattle.step.specs.Step.{withCargo, withTaken, delivered, isNoSource, offsetOf, sourceRead, barrierSent, stepped}
 use Rattle.step.proofs.Fitting.{cond-has}

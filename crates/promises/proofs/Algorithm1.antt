@@ -25,11 +25,11 @@ use Rattle.run.specs.declared.Run.{Run}
 use Rattle.run.specs.Runs.{noChannel, withChannels, withMarked, withWaiting}
 use Rattle.run.specs.Fit.{Fits, channelAt, totalsAt, flagAt}
 use Rattle.run.proofs.Clauses.{and-of}
+use Rattle.outputs.specs.Outputs.{putAll, allStored, unmarked, sourcesWait}
+use Rattle.outputs.proofs.Places.{place-at, place-past}
 use Rattle.step.specs.declared.Stepped.{Stepped}
-use Rattle.step.specs.Outputs.{putAll, allStored, unmarked, sourcesWait}
 use Rattle.step.specs.Algorithm.{answered, sealed, completed, storedBy, barrierReceived, takenIn, recordReceived}
 use Rattle.step.specs.Step.{withCargo, offsetOf, nextRecord, sourceRead, barrierSent, begun, cutOff, stepped}
-use Rattle.step.proofs.Places.{place-at, place-past}
 use Rattle.lists.specs.declared.Listed.{Listed}
 use Rattle.station.specs.Entries.{entry, stepOn, stepsOn}
 use Rattle.station.proofs.Admission.{admitted}

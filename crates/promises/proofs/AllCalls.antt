@@ -24,8 +24,8 @@ use Rattle.job.proofs.Fits.{accepted-fits}
 use Rattle.direct.specs.Direct.{directedOf}
 use Rattle.run.specs.declared.Run.{Run}
 use Rattle.run.specs.Fit.{Fits, channelAt, totalsAt, flagAt}
+use Rattle.outputs.specs.Outputs.{someFull, allMarked, allStored}
 use Rattle.step.specs.declared.Stepped.{Stepped}
-use Rattle.step.specs.Outputs.{someFull, allMarked, allStored}
 use Rattle.step.specs.Algorithm.{answered, completed, barrierReceived, recordReceived}
 use Rattle.step.specs.Step.{withCargo, delivered, isNoSource, offsetOf, sourceRead, barrierSent, begun, stepped}
 use Rattle.step.proofs.Fitting.{cond-has}

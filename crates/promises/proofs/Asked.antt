@@ -27,8 +27,8 @@ use Rattle.job.specs.Jobs.{fromOf, toOf, isSource, isInput, isOutput}
 use Rattle.job.specs.Fits.{JobFits}
 use Rattle.run.specs.Runs.{noChannel}
 use Rattle.run.specs.Fit.{totalsAt, flagAt}
-use Rattle.step.specs.Outputs.{isFull, someFull, allMarked, allStored, unmarked, sourcesWait}
-use Rattle.step.proofs.Places.{place-at, place-past}
+use Rattle.outputs.specs.Outputs.{isFull, someFull, allMarked, allStored, unmarked, sourcesWait}
+use Rattle.outputs.proofs.Places.{place-at, place-past}
 use Rattle.promises.proofs.Reading.{endOf, end-is, end-out, sourceOf, source-is, source-out, offsetIn, readJob}
 use Rattle.promises.proofs.Held.{set-at, Queues, chansOf, held-length}
 

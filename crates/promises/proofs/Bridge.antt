@@ -21,8 +21,8 @@ use Rattle.job.specs.Fits.{JobFits}
 use Rattle.run.specs.declared.Run.{Run}
 use Rattle.run.specs.Runs.{withWaiting, withUnderWay, withoutHalf}
 use Rattle.run.specs.Fit.{flagAt, Fits}
+use Rattle.outputs.specs.Outputs.{sourcesWait}
 use Rattle.step.specs.declared.Stepped.{Stepped}
-use Rattle.step.specs.Outputs.{sourcesWait}
 use Rattle.step.specs.Algorithm.{answered}
 use Rattle.step.specs.Step.{begun, cutOff, stepped}
 use Rattle.promises.proofs.Reading.{sourceOf, readRun, readOut, Sized, readJob}

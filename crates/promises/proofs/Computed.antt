@@ -12,7 +12,7 @@ use Rattle.job.specs.Graph.{sentOver}
 use Rattle.job.specs.Table.{table}
 use Rattle.direct.specs.Direct.{readBy, receivedBy, directTotals, fault35, totalsOfAll, directedOf}
 use Rattle.run.specs.Fit.{runFits, channelsFit, tasksFit, taskFits, limitOf, totalsFit, placeFits, channelFits}
-use Rattle.step.specs.Outputs.{someFull, allMarked, allStored, eachPlace, unmarked, sourcesWait, putOn, putAll}
+use Rattle.outputs.specs.Outputs.{someFull, allMarked, allStored, eachPlace, unmarked, sourcesWait, putOn, putAll}
 use Rattle.step.specs.Algorithm.{completed, storedBy, barrierReceived, takenIn, recordReceived}
 use Rattle.step.specs.Step.{withTaken, delivered, isNoSource, nextRecord, sourceRead, barrierSent, begun, cutOff, stepped}
 use Rattle.lists.specs.Lists.{listedTo}

@@ -27,7 +27,7 @@ use Rattle.run.specs.declared.Run.{Run}
 use Rattle.run.specs.Runs.{noChannel}
 use Rattle.run.specs.Fit.{Fits, runFits, channelAt, flagAt}
 use Rattle.run.proofs.Clauses.{and-of, fits-exact}
-use Rattle.step.specs.Outputs.{isFull, someFull, allMarked}
+use Rattle.outputs.specs.Outputs.{isFull, someFull, allMarked}
 use Rattle.step.specs.Algorithm.{answered}
 use Rattle.step.specs.Step.{withCargo, delivered, isNoSource, sourceRead, barrierSent, begun, cutOff, stepped}
 use Rattle.step.proofs.Sources.{opened, given, not-given, source-is}

@@ -27,7 +27,7 @@ use Rattle.job.specs.Fits.{JobFits}
 use Rattle.run.specs.declared.Run.{Run}
 use Rattle.run.specs.Runs.{withChannels, withMarked}
 use Rattle.run.specs.Fit.{channelAt, totalsAt, flagAt, Fits}
-use Rattle.step.specs.Outputs.{someFull, allMarked, unmarked}
+use Rattle.outputs.specs.Outputs.{someFull, allMarked, unmarked}
 use Rattle.step.specs.Algorithm.{answered, completed, storedBy, barrierReceived, takenIn, recordReceived}
 use Rattle.step.specs.Step.{withCargo, withTaken, delivered}
 use Rattle.step.proofs.Sources.{given}

@@ -22,7 +22,7 @@ use Rattle.job.specs.declared.Job.{Job}
 use Rattle.job.specs.Jobs.{fromOf, isOutput}
 use Rattle.job.specs.Graph.{overChannel}
 use Rattle.run.specs.Runs.{noChannel}
-use Rattle.step.specs.Outputs.{putAll}
+use Rattle.outputs.specs.Outputs.{putAll}
 use Rattle.promises.proofs.Queued.{asItem, Wide, popped, outputs-hold, others-same}
 use Rattle.promises.proofs.Queued.{itemsFor as heldFor}
 use Rattle.promises.proofs.Reading.{itemOf, itemsOf, endOf, end-is, end-out}

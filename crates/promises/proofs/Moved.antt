@@ -32,7 +32,7 @@ use Rattle.job.proofs.Tests.{some-none}
 use Rattle.run.specs.declared.Run.{Run}
 use Rattle.run.specs.Runs.{noChannel, withChannels, withMarked, withWaiting, withUnderWay, withoutHalf}
 use Rattle.run.specs.Fit.{channelAt, totalsAt, flagAt, Fits}
-use Rattle.step.specs.Outputs.{isFull, someFull, sourcesWait, putAll}
+use Rattle.outputs.specs.Outputs.{isFull, someFull, sourcesWait, putAll}
 use Rattle.step.specs.Algorithm.{answered, sealed, completed, storedBy, takenIn}
 use Rattle.step.specs.Step.{cutOff, lastOrNone}
 use Rattle.step.proofs.Fitting.{replicate-has}

@@ -21,8 +21,8 @@ use Rattle.job.specs.declared.Job.{Job}
 use Rattle.job.specs.Jobs.{fromOf, isOutput, placeOf}
 use Rattle.job.specs.Graph.{asList, sentBy, sentOver, overChannel}
 use Rattle.run.specs.Runs.{noChannel}
-use Rattle.step.specs.Outputs.{putSent, carried, putOn, putAll}
-use Rattle.step.proofs.Places.{place-at, place-past}
+use Rattle.outputs.specs.Outputs.{putSent, carried, putOn, putAll}
+use Rattle.outputs.proofs.Places.{place-at, place-past}
 use Rattle.step.proofs.Fitting.{cond-has, set-has}
 use Rattle.promises.proofs.Conditions.{fails}
 

@@ -24,11 +24,11 @@ use Rattle.job.specs.Graph.{sentBy}
 use Rattle.run.specs.declared.Run.{Run}
 use Rattle.run.specs.Runs.{freshRun, noChannel, withChannels, withMarked, withWaiting}
 use Rattle.run.specs.Fit.{channelAt, totalsAt, flagAt}
+use Rattle.outputs.specs.Outputs.{someFull, allMarked, allStored, eachPlace, unmarked, sourcesWait, put, putSent, carried, putOn, putAll}
+use Rattle.outputs.proofs.Places.{length-places}
 use Rattle.step.specs.declared.Stepped.{Stepped}
-use Rattle.step.specs.Outputs.{someFull, allMarked, allStored, eachPlace, unmarked, sourcesWait, put, putSent, carried, putOn, putAll}
 use Rattle.step.specs.Algorithm.{completed, storedBy, barrierReceived, takenIn, recordReceived}
 use Rattle.step.specs.Step.{withCargo, withTaken, delivered, isNoSource, offsetOf, sourceRead, barrierSent, begun, cutOff, stepped}
-use Rattle.step.proofs.Places.{length-places}
 use Rattle.step.proofs.Fitting.{cond-has}
 use Rattle.promises.proofs.Reading.{Sized}
 use Rattle.promises.proofs.Queued.{set-keeps, Wide, rest-wide}

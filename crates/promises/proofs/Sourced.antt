@@ -25,8 +25,8 @@ use Rattle.job.proofs.Bools.{both-true}
 use Rattle.run.specs.declared.Run.{Run}
 use Rattle.run.specs.Runs.{withWaiting}
 use Rattle.run.specs.Fit.{flagAt, Fits}
+use Rattle.outputs.specs.Outputs.{someFull}
 use Rattle.step.specs.declared.Stepped.{Stepped}
-use Rattle.step.specs.Outputs.{someFull}
 use Rattle.step.specs.Algorithm.{answered, completed, storedBy, takenIn}
 use Rattle.step.specs.Step.{isNoSource, offsetOf, nextRecord, sourceRead, barrierSent}
 use Rattle.promises.proofs.Reading.{sourceOf, source-is, partOf, readRun, readOut, Sized, endOf, end-is, end-out, readJob}

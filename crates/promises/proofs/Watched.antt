@@ -16,7 +16,7 @@ use Rattle.job.specs.Graph.{sentOver}
 use Rattle.job.specs.Table.{station}
 use Rattle.direct.specs.Direct.{readBy, receivedBy}
 use Rattle.run.specs.Fit.{totalsAt, runFits, channelsFit, tasksFit, taskFits, limitOf, totalsFit, placeFits, channelFits}
-use Rattle.step.specs.Outputs.{someFull, allMarked, allStored, eachPlace, unmarked, sourcesWait, putOn, putAll}
+use Rattle.outputs.specs.Outputs.{someFull, allMarked, allStored, eachPlace, unmarked, sourcesWait, putOn, putAll}
 use Rattle.step.specs.Algorithm.{completed, storedBy, barrierReceived, takenIn, recordReceived}
 use Rattle.step.specs.Step.{lastOrNone, withTaken, delivered, isNoSource, nextRecord, sourceRead, barrierSent, begun, cutOff, stepped}
 use Rattle.station.specs.Entries.{admittedOf, stepOn}

@@ -10,7 +10,7 @@ use Rattle.channel.specs.declared.Cargo.{Cargo}
 use Rattle.channel.specs.declared.Cargo.the-variants.{Barrier, Record as Recorded}
 use Rattle.channel.specs.declared.Channel.{Channel}
 use Rattle.channel.specs.Channels.{barrier}
-use Rattle.step.specs.Parts.{allMarkedBy}
+use Rattle.outputs.specs.Parts.{allMarkedBy}
 
 -- 14 "applies to a record, also one that the task will drop, and to a barrier that completes the task's marks. 17 applies to a record
 -- only."

@@ -41,7 +41,7 @@ fn moves(
             if full {
                 let mut marks = *marked;
                 marks[c] = true;
-                return !step::parts::all_marked(to, &marks, channels, task(to[c]));
+                return !outputs::parts::all_marked(to, &marks, channels, task(to[c]));
             }
             true
         }

@@ -10,7 +10,7 @@ ghost use Rattle.kinds.specs.Kinds.{Sendable};
 ghost use Rattle.job.specs.Columns.{RecordsFit};
 ghost use Rattle.ready.specs.Ready.{headOf};
 ghost use Rattle.ready.specs.Sending.{outputsBy, broughtBy, leftOn};
-ghost use Rattle.step.specs.Parts.{carriedBy};
+ghost use Rattle.outputs.specs.Parts.{carriedBy};
 use crate::is_from;
 use channel::Cargo;
 use channel::Channel;
@@ -91,5 +91,5 @@ pub fn carry<'a>(
     requires { ⌜ (t < 16) × Sendable (getD (now kinds) t 0) (getD (now a) t (pos 0)) got ⌝ }
     ensures { λ r. ⌜ r ≡ carriedBy (getD (now (kinds .entry)) t 0) (getD (now (a .entry)) t (pos 0)) (getD (now (b .entry)) t (pos 0)) place outputs got ch ⌝ }
 {
-    step::parts::carry(kinds[t], a[t], b[t], place, outputs, got, ch)
+    outputs::parts::carry(kinds[t], a[t], b[t], place, outputs, got, ch)
 }

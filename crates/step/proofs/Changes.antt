@@ -20,8 +20,8 @@ use Rattle.job.specs.Jobs.{bOf, toOf, isOutput, placeOf}
 use Rattle.run.specs.declared.Run.{Run}
 use Rattle.run.specs.Runs.{noChannel}
 use Rattle.run.specs.Fit.{channelAt, totalsAt, flagAt}
+use Rattle.outputs.specs.Outputs.{someFull, allMarked, allStored, eachPlace, carried, putOn, putAll}
 use Rattle.step.specs.declared.Stepped.{Stepped}
-use Rattle.step.specs.Outputs.{someFull, allMarked, allStored, eachPlace, carried, putOn, putAll}
 use Rattle.step.specs.Algorithm.{completed, storedBy, barrierReceived, takenIn, recordReceived}
 use Rattle.step.specs.Step.{withCargo, withTaken, delivered, isNoSource, offsetOf, sourceRead, barrierSent}
 use Rattle.step.proofs.Fitting.{cond-has}

@@ -35,11 +35,11 @@ use Rattle.run.specs.Runs.{noChannel, withChannels, withMarked, withWaiting, wi
 use Rattle.run.specs.Fit.{channelAt, totalsAt, flagAt, cargoFits, ChannelFits, TotalsFit, Fits}
 use Rattle.run.proofs.Ints.{is-value, value-is}
 use Rattle.run.proofs.Clauses.{and-of}
+use Rattle.outputs.specs.Outputs.{someFull, allMarked, allStored, eachPlace, unmarked, sourcesWait, put, putSent, carried, putOn, putAll}
+use Rattle.outputs.proofs.Cargos.{cylinder-from-1, cylinder-to-20, value-fits}
 use Rattle.step.specs.declared.Stepped.{Stepped}
-use Rattle.step.specs.Outputs.{someFull, allMarked, allStored, eachPlace, unmarked, sourcesWait, put, putSent, carried, putOn, putAll}
 use Rattle.step.specs.Algorithm.{answered, sealed, completed, storedBy, barrierReceived, takenIn, recordReceived}
 use Rattle.step.specs.Step.{withCargo, withTaken, delivered, isNoSource, offsetOf, nextRecord, sourceRead, barrierSent, begun, lastOrNone, cutOff, stepped}
-use Rattle.step.proofs.Cargos.{cylinder-from-1, cylinder-to-20, value-fits}
 use Rattle.step.proofs.Rooms.{with-fits}
 use Rattle.step.proofs.Sources.{source-is, head-fits}
 use Rattle.step.proofs.Lent.{record-fits, inside-part, part-short}

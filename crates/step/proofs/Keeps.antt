@@ -24,12 +24,12 @@ use Rattle.run.specs.declared.Run.{Run}
 use Rattle.run.specs.Runs.{noChannel, withChannels, withMarked, withWaiting}
 use Rattle.run.specs.Fit.{channelAt, totalsAt, flagAt, cargoFits, Fits}
 use Rattle.run.proofs.Ints.{is-value}
+use Rattle.outputs.specs.Outputs.{someFull, allMarked, allStored, unmarked, sourcesWait}
+use Rattle.outputs.proofs.Cargos.{value-fits}
 use Rattle.step.specs.declared.Stepped.{Stepped}
-use Rattle.step.specs.Outputs.{someFull, allMarked, allStored, unmarked, sourcesWait}
 use Rattle.step.specs.Algorithm.{answered, completed, storedBy, barrierReceived, takenIn, recordReceived}
 use Rattle.step.specs.Step.{withCargo, withTaken, delivered, isNoSource, offsetOf, nextRecord, sourceRead, barrierSent}
 use Rattle.step.specs.Step.{begun, lastOrNone, cutOff, stepped}
-use Rattle.step.proofs.Cargos.{value-fits}
 use Rattle.step.proofs.Rooms.{with-fits}
 use Rattle.step.proofs.Sources.{source-is, head-of, head-fits}
 use Rattle.step.proofs.Lent.{record-fits, inside-part, part-short}

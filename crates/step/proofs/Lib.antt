@@ -1,14 +1,9 @@
 -- The laws of one step.
---   Places                loops that make each place of a list anew
---   Sending               parts of a step told by numbers, and one output after the other
---   Cargos, Rooms, Lent   what the fit says of an item, of totals, of a lent record
---   Sources               what the tests of the step rules say
---   Fitting, Keeps        every step keeps a fitting run fitting (`stepped-fits`)
---   Refused               a refused step gives the run as it came (`refused-same`)
---   Changes               a step changes only what the table says (`delivered-elsewhere`, `read-elsewhere`, `sent-elsewhere`)
-pub mod Places
-pub mod Sending
-pub mod Cargos
+--   Rooms, Lent      what the fit says of totals, of a lent record
+--   Sources          what the tests of the step rules say
+--   Fitting, Keeps   every step keeps a fitting run fitting (`stepped-fits`)
+--   Refused          a refused step gives the run as it came (`refused-same`)
+--   Changes          a step changes only what the table says (`delivered-elsewhere`, `read-elsewhere`, `sent-elsewhere`)
 pub mod Rooms
 pub mod Sources
 pub mod Lent

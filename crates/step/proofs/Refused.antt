@@ -14,8 +14,8 @@ use Rattle.job.specs.declared.Job.{Job}
 use Rattle.job.specs.Jobs.{bOf, toOf}
 use Rattle.run.specs.declared.Run.{Run}
 use Rattle.run.specs.Fit.{channelAt, totalsAt, flagAt}
+use Rattle.outputs.specs.Outputs.{someFull, allMarked, allStored}
 use Rattle.step.specs.declared.Stepped.{Stepped}
-use Rattle.step.specs.Outputs.{someFull, allMarked, allStored}
 use Rattle.step.specs.Algorithm.{completed, barrierReceived, recordReceived}
 use Rattle.step.specs.Step.{withCargo, withTaken, delivered, isNoSource, offsetOf, sourceRead, barrierSent, begun, stepped}
 use Rattle.step.proofs.Fitting.{cond-has}

@@ -21,7 +21,7 @@ use Rattle.job.specs.declared.Job.{Job}
 use Rattle.run.specs.declared.Run.{Run}
 use Rattle.run.specs.Runs.{withChannels, withMarked, withLive, withHalf, withLast, withUnderWay, withoutHalf}
 use Rattle.run.specs.Fit.{totalsAt}
-use Rattle.step.specs.Outputs.{someFull, allMarked, allStored, unmarked, putAll}
+use Rattle.outputs.specs.Outputs.{someFull, allMarked, allStored, unmarked, putAll}
 use Rattle.step.specs.declared.Stepped.{Stepped}
 
 abbrev pub answered : ℕ → Run → Stepped

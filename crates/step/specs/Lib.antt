@@ -1,11 +1,7 @@
 -- One step by its number.
---   Outputs     a task's outputs and inputs: full, marked, and what is put on every output
---   Parts       the same by numbers, columns and one channel, for the loops of the code
 --   Algorithm   Algorithm 1 of source document 001: a barrier received, a record received, with the listing's line numbers
 --   Step        document 01's step rules, by the step's number
 --   Handlers    the refusals and Algorithm 1's handlers as relations, for the promises
-pub mod Outputs
-pub mod Parts
 pub mod Algorithm
 pub mod Step
 pub mod Handlers

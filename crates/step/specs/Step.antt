@@ -26,7 +26,7 @@ use Rattle.job.specs.Jobs.{aOf, bOf, toOf, isSource}
 use Rattle.run.specs.declared.Run.{Run}
 use Rattle.run.specs.Runs.{withChannels, withMarked, withWaiting, withLive, withoutHalf, withUnderWay}
 use Rattle.run.specs.Fit.{channelAt, totalsAt, flagAt}
-use Rattle.step.specs.Outputs.{someFull, sourcesWait}
+use Rattle.outputs.specs.Outputs.{someFull, sourcesWait}
 use Rattle.step.specs.Algorithm.{answered, completed, storedBy, barrierReceived, takenIn, recordReceived}
 use Rattle.step.specs.declared.Stepped.{Stepped}
 

@@ -8,8 +8,6 @@ ghost use Rattle.job.specs.Fits.{Sends};
 ghost use Rattle.run.specs.Fit.{cargoFits, totalsAt, TotalsFit};
 ghost use Rattle.step.specs.Algorithm.{completed, storedBy, barrierReceived, takenIn, recordReceived};
 use crate::Stepped;
-use crate::outputs;
-use crate::parts;
 use channel::Cargo;
 use channel::Channel;
 use job::Job;
@@ -57,7 +55,7 @@ pub fn receive_barrier(job: Job, mut run: Run, t: usize, c: usize, rest: Channel
     let held = run.channels;
     let mut marked = run.marked;
     marked[c] = true;
-    if parts::all_marked(&job.to, &marked, job.channels, t) {
+    if outputs::parts::all_marked(&job.to, &marked, job.channels, t) {
         if outputs::some_full(job, held, t) {
             return Stepped { run, answer: 14 };
         }

@@ -7,8 +7,6 @@ ghost use Rattle.run.specs.Fit.{Fits};
 ghost use Rattle.step.specs.Step.{stepped};
 
 mod algorithm;
-mod outputs;
-pub mod parts;
 mod rules;
 
 use job::Job;

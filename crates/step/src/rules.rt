@@ -12,7 +12,6 @@ ghost use Rattle.run.specs.Fit.{Fits};
 ghost use Rattle.step.specs.Step.{isNoSource, delivered, nextRecord, sourceRead, barrierSent, begun, lastOrNone, cutOff};
 use crate::Stepped;
 use crate::algorithm;
-use crate::outputs;
 use channel::Cargo;
 use channel::Channel;
 use job::Job;

@@ -9,7 +9,7 @@ use borrow.Author.Tests.{eq-eqb, ltb-true}
 use Rattle.tally.specs.Totals.{Room}
 use Rattle.job.specs.Jobs.{placeOf}
 use Rattle.run.specs.Fit.{totalsAt}
-use Rattle.step.specs.Outputs.{eachPlace}
+use Rattle.outputs.specs.Outputs.{eachPlace}
 use Rattle.ready.specs.Ready.{sourceOf}
 use Rattle.drain.specs.Drains.{possible, lowest}
 use Rattle.drain.specs.InPlace.{fullTo}

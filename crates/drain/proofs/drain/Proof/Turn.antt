@@ -19,13 +19,13 @@ use Rattle.job.specs.Jobs.{placeOf, aOf, isOutput}
 use Rattle.run.specs.Runs.{withChannels, withLive}
 use Rattle.run.specs.Fit.{channelAt, totalsAt, Fits}
 use Rattle.run.proofs.Ints.{is-value}
+use Rattle.outputs.specs.Outputs.{someFull}
+use Rattle.outputs.proofs.Cargos.{value-fits, cylinder-from-1}
+use Rattle.outputs.proofs.Sending.{putTo, put-same, place-here, place-not}
 use Rattle.step.specs.declared.Stepped.{Stepped}
 use Rattle.step.specs.Step.{stepped}
-use Rattle.step.specs.Outputs.{someFull}
 use Rattle.step.specs.Algorithm.{takenIn}
-use Rattle.step.proofs.Cargos.{value-fits, cylinder-from-1}
 use Rattle.step.proofs.Keeps.{stepped-fits}
-use Rattle.step.proofs.Sending.{putTo, put-same, place-here, place-not}
 use Rattle.drain.specs.Drains.{possible, firstFrom, lowest, drainedOf, ended}
 use Rattle.ready.specs.Ready.{taskBy, channelBy, headOf}
 use Rattle.drain.specs.InPlace.{fullTo, lastAnswer}

@@ -1,7 +1,7 @@
 -- `step::algorithm::receive_barrier` meets its contract.
 use mathlib.Core.Path.{_∙_, sym}
+use Rattle.outputs.proofs.Sending.{marked-by}
 use Rattle.step.specs.Algorithm.{barrierReceived}
-use Rattle.step.proofs.Sending.{marked-by}
 use borrow.Author.Needs.{needs}
 use Rattle.step.proofs.algorithm.receive_barrier.Statement.{statement}
 use Rattle.step.proofs.algorithm.receive_barrier.Tie as tie

@@ -5,7 +5,10 @@ ghost use Prim.Native.Nat.{_<_};
 ghost use Rattle.job.specs.Jobs.{JobSized};
 ghost use Rattle.job.specs.Fits.{Sends};
 ghost use Rattle.run.specs.Fit.{cargoFits};
-ghost use Rattle.step.specs.Outputs.{isFull, someFull, allStored, unmarked, sourcesWait, putAll};
+ghost use Rattle.outputs.specs.Outputs.{isFull, someFull, allStored, unmarked, sourcesWait, putAll};
+
+pub mod parts;
+
 use crate::parts::put_cargo;
 use channel::Cargo;
 use channel::Channel;

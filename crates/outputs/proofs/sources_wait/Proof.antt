@@ -1,4 +1,4 @@
--- `step::outputs::sources_wait` meets its contract.
+-- `outputs::sources_wait` meets its contract.
 use borrow.Author.Needs.{needs}
 use native.Mathlib.Omega.{arith}
 use Prim.Native.Nat.{_≤_, _-_}
@@ -6,10 +6,10 @@ use mathlib.Core.Path.{_≡_, refl, ap, ap₂, _∙_}
 use mathlib.Core.Bool.{false, _||_}
 use lib.ListN.{getD}
 use Rattle.job.specs.Jobs.{isSource}
-use Rattle.step.specs.Outputs.{eachPlace, sourcesWait}
-use Rattle.step.proofs.Places.{place-more}
-use Rattle.step.proofs.outputs.sources_wait.Statement.{statement}
-use Rattle.step.proofs.outputs.sources_wait.Tie as tie
+use Rattle.outputs.specs.Outputs.{eachPlace, sourcesWait}
+use Rattle.outputs.proofs.Places.{place-more}
+use Rattle.outputs.proofs.sources_wait.Statement.{statement}
+use Rattle.outputs.proofs.sources_wait.Tie as tie
 
 abbrev Inv-loop : tie.InvT-loop
 Inv-loop job n next₀ t₀ next t = (t ≤ n) × (next ≡ eachPlace false (λ k wait. wait || isSource job k) next₀ t)

@@ -1,12 +1,12 @@
--- `step::parts::carry` meets its contract.
+-- `outputs::parts::carry` meets its contract.
 use mir.Facts.{toZ-ofZ}
 use Rattle.channel.specs.declared.Added.{Added}
-use Rattle.step.specs.Outputs.{putSent}
+use Rattle.outputs.specs.Outputs.{putSent}
 use mathlib.Core.Path.{_∙_, ap, sym}
-use Rattle.step.specs.Parts.{carriedBy}
+use Rattle.outputs.specs.Parts.{carriedBy}
 use borrow.Author.Needs.{needs}
-use Rattle.step.proofs.parts.carry.Statement.{statement}
-use Rattle.step.proofs.parts.carry.Tie as tie
+use Rattle.outputs.proofs.parts.carry.Statement.{statement}
+use Rattle.outputs.proofs.parts.carry.Tie as tie
 
 sent-requires : tie.Need-sent-requires
 sent-requires c κs = search needs

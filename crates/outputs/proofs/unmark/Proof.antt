@@ -1,4 +1,4 @@
--- `step::outputs::unmark` meets its contract.
+-- `outputs::unmark` meets its contract.
 use borrow.Author.Needs.{needs}
 use native.Mathlib.Omega.{arith}
 use Prim.Native.Nat.{_≤_, _-_}
@@ -6,10 +6,10 @@ use mathlib.Core.Path.{_≡_, refl, ap, ap₂, _∙_}
 use mathlib.Core.Bool.{false, not, _&&_}
 use lib.ListN.{getD}
 use Rattle.job.specs.Jobs.{isInput}
-use Rattle.step.specs.Outputs.{eachPlace, unmarked}
-use Rattle.step.proofs.Places.{place-more}
-use Rattle.step.proofs.outputs.unmark.Statement.{statement}
-use Rattle.step.proofs.outputs.unmark.Tie as tie
+use Rattle.outputs.specs.Outputs.{eachPlace, unmarked}
+use Rattle.outputs.proofs.Places.{place-more}
+use Rattle.outputs.proofs.unmark.Statement.{statement}
+use Rattle.outputs.proofs.unmark.Tie as tie
 
 abbrev Inv-loop : tie.InvT-loop
 Inv-loop t job n next₀ c₀ next c = (c ≤ n) × (next ≡ eachPlace false (λ k mark. mark && not (isInput job t k)) next₀ c)

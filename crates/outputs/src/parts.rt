@@ -5,7 +5,7 @@ ghost use mathlib.Core.Bool.{true};
 ghost use Prim.Native.Nat.{_≤_};
 ghost use Rattle.kinds.specs.Kinds.{Scales, Sendable};
 ghost use Rattle.run.specs.Fit.{cargoFits};
-ghost use Rattle.step.specs.Parts.{allMarkedBy, carriedBy, putBy};
+ghost use Rattle.outputs.specs.Parts.{allMarkedBy, carriedBy, putBy};
 use channel::Cargo;
 use channel::Channel;
 use channel::Item;

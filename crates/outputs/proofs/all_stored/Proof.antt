@@ -1,4 +1,4 @@
--- `step::outputs::all_stored` meets its contract.
+-- `outputs::all_stored` meets its contract.
 use borrow.Author.Needs.{needs}
 use native.Mathlib.Omega.{arith}
 use Prim.Native.Nat.{_≤_, _-_}
@@ -7,9 +7,9 @@ use mathlib.Core.Bool.{false}
 use lib.ListN.{getD}
 use Rattle.job.specs.Tests.{every}
 use Rattle.job.proofs.Tests.{every-more}
-use Rattle.step.specs.Outputs.{allStored}
-use Rattle.step.proofs.outputs.all_stored.Statement.{statement}
-use Rattle.step.proofs.outputs.all_stored.Tie as tie
+use Rattle.outputs.specs.Outputs.{allStored}
+use Rattle.outputs.proofs.all_stored.Statement.{statement}
+use Rattle.outputs.proofs.all_stored.Tie as tie
 
 abbrev Inv-loop : tie.InvT-loop
 Inv-loop stored n all₀ t₀ all t = (t ≤ n) × (all ≡ every (λ k. getD stored k false) t)

@@ -14,9 +14,9 @@ use Rattle.channel.specs.declared.Channel.{Channel}
 use Rattle.job.specs.declared.Job.{Job}
 use Rattle.job.specs.Jobs.{kindOf, aOf, bOf, isOutput, placeOf}
 use Rattle.run.specs.Runs.{noChannel}
-use Rattle.step.specs.Outputs.{allMarked, eachPlace, carried, putOn}
-use Rattle.step.specs.Parts.{allMarkedBy, carriedBy, putBy}
-use Rattle.step.proofs.Places.{place-more}
+use Rattle.outputs.specs.Outputs.{allMarked, eachPlace, carried, putOn}
+use Rattle.outputs.specs.Parts.{allMarkedBy, carriedBy, putBy}
+use Rattle.outputs.proofs.Places.{place-more}
 
 pub marked-by : (job : Job) (marked : List Bool) (t : ℕ) → allMarkedBy (job .to) marked (job .channels) t ≡ allMarked job marked t
 unfolding allMarkedBy allMarked

@@ -9,7 +9,7 @@ use borrow.Author.Tests.{eqb-true, eqb-false}
 use lib.Dec.{eqb}
 use lib.ListN.{length, getD, set, length-set}
 use lib.Seq.{getD-set-same, getD-set-other}
-use Rattle.step.specs.Outputs.{eachPlace}
+use Rattle.outputs.specs.Outputs.{eachPlace}
 
 module _ {A : Type 0} (d : A) (f : ℕ → A → A) (l₀ : List A) where
   pub place-more : (i : ℕ) {l : List A} {x : A} → l ≡ eachPlace d f l₀ i → x ≡ f i (getD l i d) → set l i x ≡ eachPlace d f l₀ (i + 1)

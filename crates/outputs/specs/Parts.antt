@@ -12,7 +12,7 @@ use Rattle.channel.specs.declared.Cargo.{Cargo}
 use Rattle.channel.specs.declared.Cargo.the-variants.{Barrier, Record as Recorded}
 use Rattle.channel.specs.declared.Channel.{Channel}
 use Rattle.job.specs.Tests.{every}
-use Rattle.step.specs.Outputs.{put, putSent}
+use Rattle.outputs.specs.Outputs.{put, putSent}
 
 -- "all inputs of the task are marked"
 unfoldable pub allMarkedBy : List ℕ → List Bool → ℕ → ℕ → Bool

@@ -1,4 +1,4 @@
--- `step::outputs::put_all` meets its contract.
+-- `outputs::put_all` meets its contract.
 use mathlib.Core.Path.{_≡_, refl, ap, sym, _∙_}
 use mathlib.Core.Logic.{⊎-elim}
 use mathlib.Core.Bool.{true, false}
@@ -9,10 +9,10 @@ use mir.Facts.{toZ-ofZ}
 use mir.Syntax.{w32}
 use mir.Val.{SFits}
 use Rattle.job.specs.Jobs.{aOf, bOf, isOutput, placeOf}
-use Rattle.step.specs.Outputs.{eachPlace, putAll}
-use Rattle.step.proofs.Sending.{putTo, put-same, put-here, not-here, place-here, place-not}
-use Rattle.step.proofs.outputs.put_all.Statement.{statement}
-use Rattle.step.proofs.outputs.put_all.Tie as tie
+use Rattle.outputs.specs.Outputs.{eachPlace, putAll}
+use Rattle.outputs.proofs.Sending.{putTo, put-same, put-here, not-here, place-here, place-not}
+use Rattle.outputs.proofs.put_all.Statement.{statement}
+use Rattle.outputs.proofs.put_all.Tie as tie
 
 abbrev Inv-loop : tie.InvT-loop
 Inv-loop t cargo job n outputs kind a b next₀ place₀ c₀ next place c =

@@ -1,4 +1,4 @@
--- `step::parts::all_marked` meets its contract.
+-- `outputs::parts::all_marked` meets its contract.
 use mathlib.Core.Path.{_≡_, refl, ap, _∙_}
 use mathlib.Core.Bool.{false, not, _||_}
 use Prim.Native.Nat.{_≤_, _-_}
@@ -8,9 +8,9 @@ use lib.ListN.{getD}
 use borrow.Author.Needs.{needs}
 use Rattle.job.specs.Tests.{every}
 use Rattle.job.proofs.Tests.{every-more}
-use Rattle.step.specs.Parts.{allMarkedBy}
-use Rattle.step.proofs.parts.all_marked.Statement.{statement}
-use Rattle.step.proofs.parts.all_marked.Tie as tie
+use Rattle.outputs.specs.Parts.{allMarkedBy}
+use Rattle.outputs.proofs.parts.all_marked.Statement.{statement}
+use Rattle.outputs.proofs.parts.all_marked.Tie as tie
 
 abbrev Inv-loop : tie.InvT-loop
 Inv-loop to marked channels t all₀ c₀ all c = (c ≤ channels) × (all ≡ every (λ k. not (eqb (getD to k 0) t) || getD marked k false) c)

@@ -1,4 +1,4 @@
--- `step::outputs::some_full` meets its contract.
+-- `outputs::some_full` meets its contract.
 use borrow.Author.Needs.{needs}
 use native.Mathlib.Omega.{arith}
 use Prim.Native.Nat.{_≤_, _-_}
@@ -9,9 +9,9 @@ use Rattle.job.specs.Tests.{some}
 use Rattle.job.specs.Jobs.{isOutput}
 use Rattle.job.proofs.Tests.{some-more}
 use Rattle.run.specs.Runs.{noChannel}
-use Rattle.step.specs.Outputs.{isFull, someFull}
-use Rattle.step.proofs.outputs.some_full.Statement.{statement}
-use Rattle.step.proofs.outputs.some_full.Tie as tie
+use Rattle.outputs.specs.Outputs.{isFull, someFull}
+use Rattle.outputs.proofs.some_full.Statement.{statement}
+use Rattle.outputs.proofs.some_full.Tie as tie
 
 abbrev Inv-loop : tie.InvT-loop
 Inv-loop t job held n found₀ c₀ found c = (c ≤ n) × (found ≡ some (λ k. isOutput job t k && isFull (getD held k noChannel)) c)

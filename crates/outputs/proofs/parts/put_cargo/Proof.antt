@@ -1,11 +1,11 @@
--- `step::parts::put_cargo` meets its contract.
+-- `outputs::parts::put_cargo` meets its contract.
 use mathlib.Core.Path.{_∙_, ap}
 use mir.Facts.{toZ-ofZ}
 use Rattle.channel.specs.declared.Added.{Added}
-use Rattle.step.proofs.Cargos.{cylinder-from-1}
+use Rattle.outputs.proofs.Cargos.{cylinder-from-1}
 use borrow.Author.Needs.{needs}
-use Rattle.step.proofs.parts.put_cargo.Statement.{statement}
-use Rattle.step.proofs.parts.put_cargo.Tie as tie
+use Rattle.outputs.proofs.parts.put_cargo.Statement.{statement}
+use Rattle.outputs.proofs.parts.put_cargo.Tie as tie
 
 enum-told : tie.Need-enum-told
 enum-told c = search needs
