@@ -22,10 +22,11 @@ use Rattle.drain.specs.declared.Drained.{Drained}
 use Rattle.station.specs.Entries.{stepOn, drainOn}
 use Rattle.promises.specs.Grown.{afterSteps, grown, wholeParts}
 use Rattle.promises.proofs.Promised.{grown-runs, drain-ends}
-use Rattle.text.specs.Decimals.{digitsIn, digits, decimal}
-use Rattle.text.specs.Rows.{fieldsOf}
-use Rattle.table.specs.Tables.{header, linesTo, listed, drained, tableOf}
-use Rattle.table.specs.Traces.{runAfter}
+use Rattle.rows.specs.Decimals.{digitsIn, digits, decimal}
+use Rattle.rows.specs.Rows.{fieldsOf}
+use Rattle.traced.specs.Lines.{linesTo}
+use Rattle.traced.specs.Traces.{runAfter}
+use Rattle.table.specs.Tables.{header, listed, drained, tableOf}
 use Rattle.table.specs.Outputs.{answerTo}
 use Rattle.table.proofs.Answers.{answer-table, table-done}
 use Rattle.printed.specs.Printed.{directTable, TotalsDirect, OneRun, WorkedTotals}

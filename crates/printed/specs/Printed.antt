@@ -11,8 +11,9 @@ use Rattle.job.specs.Rules.{jobAnswer}
 use Rattle.job.specs.Table.{station}
 use Rattle.direct.specs.Direct.{directedOf}
 use Rattle.promises.specs.Grown.{wholeParts}
-use Rattle.table.specs.Tables.{header, linesTo, listed}
-use Rattle.table.specs.Traces.{runAfter}
+use Rattle.traced.specs.Lines.{linesTo}
+use Rattle.traced.specs.Traces.{runAfter}
+use Rattle.table.specs.Tables.{header, listed}
 use Rattle.table.specs.Outputs.{answerTo}
 
 -- the table of direct evaluation's totals

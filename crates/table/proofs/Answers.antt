@@ -14,14 +14,11 @@ use Rattle.job.proofs.Exact.{all-off, fine-of}
 use Rattle.lists.specs.declared.Listed.{Listed}
 use Rattle.drain.specs.declared.Drained.{Drained}
 use Rattle.station.specs.Entries.{drainOn}
-use Rattle.text.specs.Rows.{refusalOf}
-use Rattle.table.specs.Tables.{header, linesTo, listed, drained, tableOf}
-use Rattle.table.specs.Traces.{traceHeader, stepRows, shownOf, afterSteps, afterDrain, traceOf}
-use Rattle.table.specs.Outputs.{answerTo}
-
-pub shown-few : (complete : Bool) (tasks : ℕ) → shownOf complete tasks ≤ tasks
-shown-few true tasks = omega arith
-shown-few false tasks = omega arith
+use Rattle.rows.specs.Rows.{refusalOf}
+use Rattle.traced.specs.Lines.{linesTo}
+use Rattle.traced.specs.Traces.{traceHeader, stepRows, afterSteps, afterDrain}
+use Rattle.table.specs.Tables.{header, listed, drained, tableOf}
+use Rattle.table.specs.Outputs.{traceOf, answerTo}
 
 module _ (tasks : ℕ) (d : Drained) where
   pub table-refused : (d .answer ≡ 0 → ⊥) → tableOf tasks d ≡ refusalOf (pos (d .answer))

@@ -1,6 +1,5 @@
--- Laws of what is written, and that a text has one output.
-pub mod Writing
-pub mod Stepping
+-- What is printed in each case, and that a text has one output.
+pub mod Counting
 pub mod Answers
 pub mod Reading
 pub mod One

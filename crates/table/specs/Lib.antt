@@ -1,4 +1,3 @@
--- What the programs `totals` and `trace` print: the table, the trace, and the whole output for a text.
+-- What the programs `totals` and `trace` print: the table, and the whole output for a text.
 pub mod Tables
-pub mod Traces
 pub mod Outputs

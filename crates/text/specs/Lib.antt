@@ -1,7 +1,4 @@
--- The text of a station: numbers, rows, the whole text, and what is written into a lent buffer.
-pub mod Decimals
-pub mod Rows
-pub mod Buffers
+-- The text of a station: the whole text, what `read` does with it, and what the inner steps of reading say.
 pub mod Texts
 pub mod Outcome
 pub mod Says

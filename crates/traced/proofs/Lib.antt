@@ -1,0 +1,3 @@
+-- Laws of what is written, and of one step more.
+pub mod Writing
+pub mod Stepping

@@ -1,0 +1,3 @@
+-- The lines of tasks, and the rows of `trace`.
+pub mod Lines
+pub mod Traces
