@@ -1,4 +1,5 @@
--- The rows that the program `trace` prints for an accepted job (`traceOf` of table/specs/Outputs.antt): six fields a row, and every row is a fact that can be laid beside document 01.
+-- The rows of which the program `trace` prints a trace (`traceOf` of table/specs/Outputs.antt) for an accepted job: six fields a row, and
+-- every row is a fact that can be laid beside document 01.
 --   row,number,first,second,third,fourth
 --   step,NUMBER,ANSWER,0,0,0                            for each step, in order
 --   list,0,DONE,REFUSED,0,0                             the list of these steps
