@@ -15,7 +15,7 @@ use Rattle.drain.specs.Drains.{possible, lowest}
 use Rattle.drain.specs.InPlace.{fullTo}
 use Rattle.drain.proofs.Draining.{first-miss}
 use Rattle.drain.proofs.InPlace.{full-more}
-use Rattle.drain.proofs.drain.Proof.Turn.{I2, m2, I3, m3, I4, m4, I, m, hits, going}
+use Rattle.drain.proofs.drain.Proof.Turn.{I2, m2, I3, m3, I4, m4, I, m, tried, chosen, hits, going}
 use Rattle.drain.proofs.drain.Proof.Turn.{known, at-output, returns, brought-requires, carry-requires, loop4-again, loop-again}
 use Rattle.drain.proofs.drain.Statement.{statement}
 use Rattle.drain.proofs.drain.Tie as tie
@@ -37,7 +37,8 @@ noted-requires : tie.Need-noted-requires I2 m2 I3 m3 I4 m4 I m
 noted-requires c κs =
     let sized = c .before .before .before .before .before .before .pre .0 .sends .sized in
     let less = c .before .before .before .loop2-test .taken in
-    (omega (arith, sized .few-channels, less), omega (arith, sized .from-task (c .before .before .before .before .loop2 .k) less, sized .few-tasks))
+    let from = sized .from-task (c .before .before .before .before .loop2 .k) less in
+    (omega (arith, sized .few-channels, less), omega (arith, from, sized .few-tasks))
 
 add-k : tie.Need-add-k I2 m2 I3 m3 I4 m4 I m
 add-k c = omega (arith, c .before .before .before .before .before .before .before .pre .0 .sends .sized .few-channels)
@@ -46,7 +47,11 @@ loop2-less : tie.Need-loop2-less I2 m2 I3 m3 I4 m4 I m
 loop2-less c = omega arith
 
 loop2-again : tie.Need-loop2-again I2 m2 I3 m3 I4 m4 I m
-loop2-again c = (omega arith, c .noted .ensures ∙ full-more (c .before .before .before .before .before .before .before .args .t1) (c .before .before .before .before .before .before .loop .r .channels) (c .before .before .before .before .before .loop2 .k) (c .before .before .before .before .before .loop2 .inv .1))
+loop2-again c =
+    let l = c .before .before .before .before .before .loop2 in
+    let b = c .before .before .before .before .before .before .before in
+    let r = c .before .before .before .before .before .before .loop .r in
+    (omega arith, c .noted .ensures ∙ full-more (b .args .t1) (r .channels) (l .k) (l .inv .1))
 
 loop3-holds : tie.Need-loop3-holds I2 m2 I3 m3 I4 m4 I m
 unfolding lowest
@@ -72,22 +77,27 @@ element-copy-out-ch-2 c = c .before .channel-of .ensures .1
 
 is-possible-requires : tie.Need-is-possible-requires I2 m2 I3 m3 I4 m4 I m
 is-possible-requires c κs =
-    let b = c .before .before .before .before .before .before .before .before .before .before .before .before .before .before .before .before .before .before .before .pre .0 in
-    (b .sends .sized .few-channels, λ l s. b .parts (sourceOf (c .before .before .before .before .before .before .before .before .before .before .before .before .before .before .before .loop3 .i)) (ltb-true _ _ l) (eq-eqb _ _ s) .length-low)
+    let s = c .before .before .before .before .before .before .before .before .before .before .before .before .before .before .before in
+    let b = s .before .before .before .before .pre .0 in
+    (b .sends .sized .few-channels, λ l x. b .parts (sourceOf (s .loop3 .i)) (ltb-true _ _ l) (eq-eqb _ _ x) .length-low)
 
 add-i : tie.Need-add-i I2 m2 I3 m3 I4 m4 I m
-add-i c = omega (arith, c .before .before .before .before .before .before .before .before .before .before .before .before .before .before .before .before .before .loop3 .inv .0, c .before .before .before .before .before .before .before .before .before .before .before .before .before .before .before .before .if1 .left)
+add-i c =
+    let t = tried (c .before) .before .before .before .before in
+    omega (arith, t .before .loop3 .inv .0, t .if1 .left)
 
 loop3-less : tie.Need-loop3-less I2 m2 I3 m3 I4 m4 I m
-loop3-less c = omega (arith, c .before .before .before .before .before .before .before .before .before .before .before .before .before .before .before .before .before .loop3 .inv .0, c .before .before .before .before .before .before .before .before .before .before .before .before .before .before .before .before .if1 .left)
+loop3-less c =
+    let t = tried (c .before) .before .before .before .before in
+    omega (arith, t .before .loop3 .inv .0, t .if1 .left)
 
 loop3-again : tie.Need-loop3-again I2 m2 I3 m3 I4 m4 I m
 loop3-again c =
-    let b = c .before .before .before .before .before .before .before .before .before .before .before .before .before .before .before .before .before .before .before .before .before .args in
-    let s = c .before .before .before .before .before .before .before .before .before .before .before .before .before .before .before .before .before .loop3 in
-    let test = possible (b .t1) _ _ (c .before .before .before .before .before .before .before .before .before .before .before .before .before .before .before .before .before .before .before .before .loop .r) in
-    let more : s .i < 64 = omega (arith, s .inv .0, c .before .before .before .before .before .before .before .before .before .before .before .before .before .before .before .before .if1 .left) in
-    (omega arith, sym (first-miss 64 (s .i) test more (sym (hits (c .before)) ∙ c .if2 .left)) ∙ s .inv .1)
+    let t = tried (c .before) in
+    let s = t .before .before .before .before .before in
+    let test = possible (s .before .before .before .before .args .t1) _ _ (s .before .before .before .loop .r) in
+    let more : s .loop3 .i < 64 = omega (arith, s .loop3 .inv .0, t .before .before .before .before .if1 .left) in
+    (omega arith, sym (first-miss 64 (s .loop3 .i) test more (sym (hits (c .before)) ∙ c .if2 .left)) ∙ s .loop3 .inv .1)
 
 some-left-requires : tie.Need-some-left-requires I2 m2 I3 m3 I4 m4 I m
 some-left-requires c κs = c .before .before .before .before .before .before .pre .0 .sends .sized
@@ -117,13 +127,20 @@ enum-told : tie.Need-enum-told I2 m2 I3 m3 I4 m4 I m
 enum-told c = search needs
 
 step-requires : tie.Need-step-requires I2 m2 I3 m3 I4 m4 I m
-step-requires c κs = let b = c .before .before .before .before .before .before .before .before .before .before .before .before .before .before .before .before .before .pre in (b .0, c .before .before .before .before .before .before .before .before .before .before .before .before .before .before .before .before .loop .inv .1, b .2)
+step-requires c κs =
+    let e = chosen (c .before .before) in
+    let b = e .before .before .before .before .before .before .pre in
+    (b .0, e .before .before .before .before .before .loop .inv .1, b .2)
 
 enum-known-cargo : tie.Need-enum-known-cargo I2 m2 I3 m3 I4 m4 I m
 enum-known-cargo c = search needs
 
 with-requires : tie.Need-with-requires I2 m2 I3 m3 I4 m4 I m
-with-requires c κs = subst (λ k. Room (totalsAt (c .before .before .before .before .before .before .before .before .before .before .before .before .before .before .before .before .before .before .loop .r .live) k)) (sym (c .before .before .before .before .before .before .before .before .before .before .task-of2 .ensures .0)) (known (c .before .before) .room)
+with-requires c κs =
+    let g = c .before .before in
+    let r = chosen (g .before .before) .before .before .before .before .before .loop .r in
+    let t = g .before .before .before .before .before .before .before .before .task-of2 in
+    subst (λ k. Room (totalsAt (r .live) k)) (sym (t .ensures .0)) (known g .room)
 
 mul-now : tie.Need-mul-now I2 m2 I3 m3 I4 m4 I m
 mul-now c = omega (arith, c .before .before .before .before .before .before .before .before .before .before .before .task-of2 .ensures .1)
@@ -135,13 +152,18 @@ left-on-requires : tie.Need-left-on-requires I2 m2 I3 m3 I4 m4 I m
 left-on-requires c κs = search needs
 
 mul-rest : tie.Need-mul-rest I2 m2 I3 m3 I4 m4 I m
-mul-rest c = omega (arith, c .before .before .before .before .before .before .before .before .before .before .before .channel-of2 .ensures .1)
+mul-rest c =
+    let d = c .before .before .before .before .before .before .before .before .before .before .before .channel-of2 in
+    omega (arith, d .ensures .1)
 
 element-set-from-rest : tie.Need-element-set-from-rest I2 m2 I3 m3 I4 m4 I m
 element-set-from-rest c = c .before .before .before .before .before .before .before .before .before .before .before .channel-of2 .ensures .1
 
 outputs-of-requires : tie.Need-outputs-of-requires I2 m2 I3 m3 I4 m4 I m
-outputs-of-requires c κs = c .before .before .before .before .before .before .before .before .before .before .before .before .before .before .before .before .before .before .before .before .before .before .before .pre .0 .sends .sized .few-channels
+outputs-of-requires c κs =
+    let g = c .before .before .before .before .before .before in
+    let e = chosen (g .before .before) in
+    e .before .before .before .before .before .before .pre .0 .sends .sized .few-channels
 
 loop4-holds : tie.Need-loop4-holds I2 m2 I3 m3 I4 m4 I m
 unfolding eachPlace placeOf
@@ -163,7 +185,9 @@ element-set-from-next : tie.Need-element-set-from-next I2 m2 I3 m3 I4 m4 I m
 element-set-from-next c = at-output (c .before .before .before .before .before .before .before .before .before .before)
 
 add-place : tie.Need-add-place I2 m2 I3 m3 I4 m4 I m
-add-place c = omega (arith, c .before .before .before .before .before .before .before .before .before .before .before .loop4 .inv .3, at-output (c .before .before .before .before .before .before .before .before .before .before))
+add-place c =
+    let o = c .before .before .before .before .before .before .before .before .before .before in
+    omega (arith, o .before .loop4 .inv .3, at-output o)
 
 add-j : tie.Need-add-j I2 m2 I3 m3 I4 m4 I m
 add-j c = omega (arith, at-output (c .before .before .before .before))

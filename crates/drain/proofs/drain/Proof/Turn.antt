@@ -63,6 +63,19 @@ I cylinders values limit job channels r₀ steps₀ r steps =
 abbrev pub m : tie.MeasureT-loop
 m cylinders values limit job channels r₀ steps₀ r steps = limit - steps
 
+-- ---- how far up the text a place stands
+-- where the search has its task and its channel
+abbrev pub tried : tie.After-is-possible I2 m2 I3 m3 I4 m4 I m → tie.After-channel-of I2 m2 I3 m3 I4 m4 I m
+tried c = c .before .before .before .before .before .before .before .before .before .before .before
+
+-- where the step was found to be possible
+abbrev pub chosen : tie.After-brought I2 m2 I3 m3 I4 m4 I m → tie.Else3 I2 m2 I3 m3 I4 m4 I m
+chosen c = c .before .before .before .before .before .before .before .before .before
+
+-- where the record was found in what the step brings
+abbrev pub taken : tie.In-loop4 I2 m2 I3 m3 I4 m4 I m → tie.After-cargo I2 m2 I3 m3 I4 m4 I m
+taken c = c .before .before .before .before .before .before .before .before .before
+
 -- ---- the search
 -- each task noted as having a full output has one, and no other
 noted : (c : tie.After-loop2 I2 m2 I3 m3 I4 m4 I m) (t : ℕ)
@@ -80,20 +93,25 @@ noted c t =
 
 -- the search asks whether the step is possible
 pub hits : (c : tie.After-is-possible I2 m2 I3 m3 I4 m4 I m)
-    → (let b = c .before .before .before .before .before .before .before .before .before .before .before .before .before .before .before .before .before .before .before .before .args in
-    c .is-possible .result ≡ possible (b .t1) (b .cylinders .now) (b .values .now) (c .before .before .before .before .before .before .before .before .before .before .before .before .before .before .before .before .before .before .before .loop .r) (c .before .before .before .before .before .before .before .before .before .before .before .before .before .before .before .before .loop3 .i))
+    → (let s = tried c .before .before .before .before .before in
+    let b = s .before .before .before .before .args in
+    c .is-possible .result ≡ possible (b .t1) (b .cylinders .now) (b .values .now) (s .before .before .before .loop .r) (s .loop3 .i))
 hits c =
-    let b = c .before .before .before .before .before .before .before .before .before .before .before .before .before .before .before .before .before .before .before .before in
-    let l = c .before .before .before .before .before .before .before .before .before .before .before .before .before .before .before .before .before .before .before .loop in
-    let s = c .before .before .before .before .before .before .before .before .before .before .before .before .before .before .before .before .loop3 in
-    let high : s .i < 64 = omega (arith, s .inv .0, c .before .before .before .before .before .before .before .before .before .before .before .before .before .before .before .if1 .left) in
+    let t = tried c in
+    let s = t .before .before .before .before .before in
+    let b = s .before .before .before .before in
+    let l = s .before .before .before .loop in
+    let sized = b .pre .0 .sends .sized in
+    let high : s .loop3 .i < 64 = omega (arith, s .loop3 .inv .0, t .before .before .before .before .if1 .left) in
     c .is-possible .ensures
-    ∙ hit (b .args .t1) _ _ (l .r) (c .before .before .before .before .before .before .before .before .before .before .before .before .before .before .before .before .before .before .loop2 .full) (noted (c .before .before .before .before .before .before .before .before .before .before .before .before .before .before .before .before .before)) (s .i) (b .pre .0 .sends .sized) (l .inv .1) high _ _
-    (ap (λ k. totalsAt (l .r .live) k .count) (c .before .before .before .before .before .before .before .before .before .before .before .before .task-of .ensures .0)) (ap (channelAt (l .r)) (c .before .before .before .before .before .before .before .before .before .before .before .channel-of .ensures .0))
+    ∙ hit (b .args .t1) _ _ (l .r) (s .before .before .loop2 .full) (noted (s .before)) (s .loop3 .i) sized (l .inv .1) high _ _
+    (ap (λ k. totalsAt (l .r .live) k .count) (t .before .task-of .ensures .0)) (ap (channelAt (l .r)) (t .channel-of .ensures .0))
 
 -- where it ends, its number is the lowest possible one
 found : (c : tie.Joined1 I2 m2 I3 m3 I4 m4 I m)
-    → (let b = c .before .before .before .before .before .args in c .if1 .n ≡ lowest (b .t1) (b .cylinders .now) (b .values .now) (c .before .before .before .before .loop .r))
+    → (let b = c .before .before .before .before .before .args in
+    let r = c .before .before .before .before .loop .r in
+    c .if1 .n ≡ lowest (b .t1) (b .cylinders .now) (b .values .now) r)
 found c =
     let b = c .before .before .before .before .before .args in
     let test = possible (b .t1) (b .cylinders .now) (b .values .now) (c .before .before .before .before .loop .r) in
@@ -106,11 +124,10 @@ found c =
     record { before = record { before = record { before = there; job2 = w .1 }; task-of-arg = w .2 }; task-of = w .3 } in
     let held : tie.After-ch2 I2 m2 I3 m3 I4 m4 I m =
     record { before = record { before = record { before = task; channel-of = w .4 }; totals = w .5 }; ch2 = w .6 } in
+    let first : tie.After-is-possible-arg I2 m2 I3 m3 I4 m4 I m =
+    record { before = record { before = held; job3 = w .7 }; is-possible-arg = w .8 } in
     let lent : tie.After-is-possible-arg3 I2 m2 I3 m3 I4 m4 I m =
-    record {
-      before = record { before = record { before = record { before = held; job3 = w .7 }; is-possible-arg = w .8 }; is-possible-arg2 = w .9 };
-      is-possible-arg3 = w .10;
-    } in
+    record { before = record { before = first; is-possible-arg2 = w .9 }; is-possible-arg3 = w .10 } in
     let flags : tie.After-is-possible-arg5 I2 m2 I3 m3 I4 m4 I m =
     record { before = record { before = record { before = lent; r = w .11 }; is-possible-arg4 = w .12 }; is-possible-arg5 = w .13 } in
     let h = hits (record { before = record { before = flags; full = w .14 }; is-possible = w .15 }) in
@@ -130,44 +147,55 @@ going c =
 
 -- ---- what the step brings, and what is known of it where it is a record
 brought-is : (c : tie.After-brought I2 m2 I3 m3 I4 m4 I m)
-    → (let b = c .before .before .before .before .before .before .before .before .before .before .before .before .before .before .before .args in
-    let r = c .before .before .before .before .before .before .before .before .before .before .before .before .before .before .loop .r in
-    let n = c .before .before .before .before .before .before .before .before .before .before .if1 .n in
+    → (let e = chosen c in
+    let b = e .before .before .before .before .before .before .args in
+    let r = e .before .before .before .before .before .loop .r in
+    let n = e .before .if1 .n in
     let t = taskBy (b .t1 .to) n in
     let head = headOf (channelAt r (channelBy n)) in
     c .brought .result ≡ broughtBy (b .cylinders .now) (b .values .now) n head (aOf (b .t1) t) (totalsAt (r .live) t .count))
 brought-is c =
-    let job = c .before .before .before .before .before .before .before .before .before .before .before .before .before .before .before .args .t1 in
-    let r = c .before .before .before .before .before .before .before .before .before .before .before .before .before .before .loop .r in
+    let e = chosen c in
+    let job = e .before .before .before .before .before .before .args .t1 in
+    let r = e .before .before .before .before .before .loop .r in
     let t = c .before .before .before .before .before .before .task-of2 .ensures .0 in
+    let d = c .before .before .before .before .before .channel-of2 .ensures .0 in
     c .brought .ensures
-    ∙ brought-same _ _ _ _ _ _ _ _ _ (ap (λ k. headOf (channelAt r k)) (c .before .before .before .before .before .channel-of2 .ensures .0)) (ap (aOf job) t)
-    (ap (λ k. totalsAt (r .live) k .count) t)
+    ∙ brought-same _ _ _ _ _ _ _ _ _ (ap (λ k. headOf (channelAt r k)) d) (ap (aOf job) t) (ap (λ k. totalsAt (r .live) k .count) t)
 
 pub known : (c : tie.After-cargo I2 m2 I3 m3 I4 m4 I m)
-    → (let b = c .before .before .before .before .before .before .before .before .before .before .before .before .before .before .before .before .before .args in
-    Brings (b .t1) (b .cylinders .now) (b .values .now) (c .before .before .before .before .before .before .before .before .before .before .before .before .before .before .before .before .loop .r) (c .before .before .before .before .before .before .before .before .before .before .before .before .if1 .n) (c .cargo .given .0 .0))
+    → (let e = chosen (c .before .before) in
+    let b = e .before .before .before .before .before .before .args in
+    let r = e .before .before .before .before .before .loop .r in
+    Brings (b .t1) (b .cylinders .now) (b .values .now) r (e .before .if1 .n) (c .cargo .given .0 .0))
 known c =
-    let b = c .before .before .before .before .before .before .before .before .before .before .before .before .before .before .before .before .before in
-    let l = c .before .before .before .before .before .before .before .before .before .before .before .before .before .before .before .before .loop in
-    brings (b .args .t1) _ _ (l .r) (c .before .before .before .before .before .before .before .before .before .before .before .before .if1 .n) (b .pre .0) (l .inv .1) (going (c .before .before .before .before .before .before .before .before .before .before .before) .1) (b .pre .2) (c .cargo .given .0 .0)
+    let e = chosen (c .before .before) in
+    let b = e .before .before .before .before .before .before in
+    let l = e .before .before .before .before .before .loop in
+    brings (b .args .t1) _ _ (l .r) (e .before .if1 .n) (b .pre .0) (l .inv .1) (going e .1) (b .pre .2) (c .cargo .given .0 .0)
     (sym (brought-is (c .before .before)) ∙ c .cargo .given .1)
 
 -- ---- the outputs
 pub at-output : (c : tie.In-loop4 I2 m2 I3 m3 I4 m4 I m) → c .before .loop4 .j < 32
-at-output c = omega (arith, c .loop4-test .taken, c .before .before .before .before .before .before .before .before .before .before .before .before .before .before .before .before .before .before .before .before .before .before .before .before .before .before .pre .0 .sends .sized .few-channels)
+at-output c =
+    let e = chosen (taken c .before .before) in
+    omega (arith, c .loop4-test .taken, e .before .before .before .before .before .before .pre .0 .sends .sized .few-channels)
 
 -- where the last output is passed, the run is the one after the step
 put-out : (c : tie.After-loop4 I2 m2 I3 m3 I4 m4 I m)
-    → (let b = c .before .before .before .before .before .before .before .before .before .before .before .before .before .before .before .before .before .before .before .before .before .before .before .before .before .before .args in
-    c .before .loop4 .r ≡ stepped (b .t1) (b .cylinders .now) (b .values .now) (c .before .before .before .before .before .before .before .before .before .before .before .before .before .before .before .before .before .before .before .before .before .before .before .before .before .loop .r) (c .before .before .before .before .before .before .before .before .before .before .before .before .before .before .before .before .before .before .before .before .before .if1 .n) .run)
+    → (let g = c .before .before .before .before .before .before .before .before .before in
+    let e = chosen (g .before .before) in
+    let b = e .before .before .before .before .before .before .args in
+    let r = e .before .before .before .before .before .loop .r in
+    c .before .loop4 .r ≡ stepped (b .t1) (b .cylinders .now) (b .values .now) r (e .before .if1 .n) .run)
 put-out c =
-    let job = c .before .before .before .before .before .before .before .before .before .before .before .before .before .before .before .before .before .before .before .before .before .before .before .before .before .before .args .t1 in
-    let r = c .before .before .before .before .before .before .before .before .before .before .before .before .before .before .before .before .before .before .before .before .before .before .before .before .before .loop .r in
-    let n = c .before .before .before .before .before .before .before .before .before .before .before .before .before .before .before .before .before .before .before .before .before .if1 .n in
-    let t = c .before .before .before .before .before .before .before .before .before .before .before .before .before .before .before .before .before .task-of2 in
-    let d = c .before .before .before .before .before .before .before .before .before .before .before .before .before .before .before .before .channel-of2 in
     let g = c .before .before .before .before .before .before .before .before .before in
+    let e = chosen (g .before .before) in
+    let job = e .before .before .before .before .before .before .args .t1 in
+    let r = e .before .before .before .before .before .loop .r in
+    let n = e .before .if1 .n in
+    let t = g .before .before .before .before .before .before .before .before .task-of2 in
+    let d = g .before .before .before .before .before .before .before .channel-of2 in
     let got = g .cargo .given .0 .0 in
     let now = c .before .before .before .before .before .before .with in
     let rest = c .before .before .before .before .before .left-on in
@@ -184,8 +212,10 @@ put-out c =
 
 -- by the plain step or in place, the run is the one after the step
 next : (c : tie.At-match-came I2 m2 I3 m3 I4 m4 I m)
-    → (let b = c .before .before .before .before .before .before .before .before .before .before .before .before .before .before .before .before .args in
-    c .match .r ≡ stepped (b .t1) (b .cylinders .now) (b .values .now) (c .before .before .before .before .before .before .before .before .before .before .before .before .before .before .before .loop .r) (c .before .before .before .before .before .before .before .before .before .before .before .if1 .n) .run)
+    → (let e = chosen (c .before) in
+    let b = e .before .before .before .before .before .before .args in
+    let r = e .before .before .before .before .before .loop .r in
+    c .match .r ≡ stepped (b .t1) (b .cylinders .now) (b .values .now) r (e .before .if1 .n) .run)
 next c =
     ⊎-elim
     (λ w. w .4 ∙ ap (λ (s : Stepped). s .run) (w .2 .ensures))
@@ -211,38 +241,45 @@ returns c =
 
 pub brought-requires : tie.Need-brought-requires I2 m2 I3 m3 I4 m4 I m
 brought-requires c κs =
-    let b = c .before .before .before .before .before .before .before .before .before .before .before .before .before .before in
+    let t = c .before .before .before .before .before .task-of2 .ensures in
+    let e = c .before .before .before .before .before .before .before .before in
+    let b = e .before .before .before .before .before .before in
     let job = b .args .t1 in
-    let l = c .before .before .before .before .before .before .before .before .before .before .before .before .before .loop in
-    let g = going (c .before .before .before .before .before .before .before .before) in (
-      (c .before .before .before .before .before .task-of2 .ensures .1, b .pre .2),
+    let cs = b .args .cylinders .now in
+    let l = e .before .before .before .before .before .loop in
+    let g = going e in (
+      (t .1, b .pre .2),
       λ p q. subst
-          (λ k. (leZ (pos 0) (aOf job k) ≡ true) × (natAbs (aOf job k) + totalsAt (l .r .live) k .count < length (b .args .cylinders .now)))
-          (sym (c .before .before .before .before .before .task-of2 .ensures .0)) (brought-inside job _ _ (l .r) (c .before .before .before .before .before .before .before .before .before .if1 .n) (b .pre .0) (l .inv .1) (g .1) (g .0) p q),
+          (λ k. (leZ (pos 0) (aOf job k) ≡ true) × (natAbs (aOf job k) + totalsAt (l .r .live) k .count < length cs))
+          (sym (t .0)) (brought-inside job _ _ (l .r) (e .before .if1 .n) (b .pre .0) (l .inv .1) (g .1) (g .0) p q),
     )
 
 pub carry-requires : tie.Need-carry-requires I2 m2 I3 m3 I4 m4 I m
 carry-requires c κs =
-    let g = c .before .before .before .before .before .before .before .before .before .before .before .before .before .before .before .before .before .before in
-    let b = c .before .before .before .before .before .before .before .before .before .before .before .before .before .before .before .before .before .before .before .before .before .before .before .before .before .before .before .before .before .before .before .before .before .before .before in (
-      c .before .before .before .before .before .before .before .before .before .before .before .before .before .before .before .before .before .before .before .before .before .before .before .before .before .before .task-of2 .ensures .1,
-      record {
-        cylinders = cylinder-from-1 (g .cargo .given .0 .0) (known g .fits);
-        scales = b .pre .0 .sends .scales (c .before .before .before .before .before .before .before .before .before .before .before .before .before .before .before .before .before .before .before .before .before .before .before .before .before .before .task-of2 .result);
-      },
+    let o = c .before .before .before .before .before .before .before .before .before in
+    let g = taken o in
+    let t = g .before .before .before .before .before .before .before .before .task-of2 in
+    let b = chosen (g .before .before) .before .before .before .before .before .before in (
+      t .ensures .1,
+      record { cylinders = cylinder-from-1 (g .cargo .given .0 .0) (known g .fits); scales = b .pre .0 .sends .scales (t .result) },
     )
 
 pub loop4-again : tie.Need-loop4-again I2 m2 I3 m3 I4 m4 I m
 loop4-again c =
-    let job = c .before .before .before .before .before .before .before .before .before .before .before .before .before .before .before .before .before .before .before .before .before .before .before .before .before .before .before .before .before .before .args .t1 in
-    let r = c .before .before .before .before .before .before .before .before .before .before .before .before .before .before .before .before .before .before .before .before .before .before .before .before .before .before .before .before .before .loop .r in
-    let t = c .before .before .before .before .before .before .before .before .before .before .before .before .before .before .before .before .before .before .before .before .before .task-of2 .result in
-    let got = c .before .before .before .before .before .before .before .before .before .before .before .before .before .cargo .given .0 .0 in
-    let start = withChannels (set (r .channels) (c .before .before .before .before .before .before .before .before .before .before .before .before .before .before .before .before .before .before .before .before .channel-of2 .result) (c .before .before .before .before .before .before .before .before .before .left-on .result))
-    (withLive (set (r .live) t (c .before .before .before .before .before .before .before .before .before .before .with .result)) r) in
-    let l = c .before .before .before .before .before .loop4 in
-    let less = c .before .before .before .before .loop4-test .taken in
-    let outputs = c .before .before .before .before .before .before .outputs-of .ensures ∙ outputs-place job t (job .channels) in
+    let o = c .before .before .before .before in
+    let g = taken o in
+    let e = chosen (g .before .before) in
+    let job = e .before .before .before .before .before .before .args .t1 in
+    let r = e .before .before .before .before .before .loop .r in
+    let t = g .before .before .before .before .before .before .before .before .task-of2 .result in
+    let d = g .before .before .before .before .before .before .before .channel-of2 .result in
+    let got = g .cargo .given .0 .0 in
+    let now = o .before .before .before .before .before .before .with .result in
+    let rest = o .before .before .before .before .before .left-on .result in
+    let start = withChannels (set (r .channels) d rest) (withLive (set (r .live) t now) r) in
+    let l = o .before .loop4 in
+    let less = o .loop4-test .taken in
+    let outputs = o .before .before .outputs-of .ensures ∙ outputs-place job t (job .channels) in
     ⊎-elim
     (λ w.
     let o : isOutput job t (l .j) ≡ true = sym (c .before .is-from .ensures) ∙ w .0 .taken in (
@@ -263,13 +300,13 @@ loop4-again c =
 
 pub loop-again : tie.Need-loop-again I2 m2 I3 m3 I4 m4 I m
 loop-again c =
-    let e = c .before .before .before .before .before .before .before .before .before .before in
-    let b = c .before .before .before .before .before .before .before .before .before .before .before .before .before .before .before .before in
+    let e = chosen (c .before) in
+    let b = e .before .before .before .before .before .before in
     let job = b .args .t1 in
-    let l = c .before .before .before .before .before .before .before .before .before .before .before .before .before .before .before .loop in
+    let l = e .before .before .before .before .before .loop in
     let g = going e in
     let low = found (e .before) in
-    let left = possible-left job _ _ (l .r) (c .before .before .before .before .before .before .before .before .before .before .before .if1 .n) (b .pre .0) (l .inv .1) (g .1) (g .0) in
+    let left = possible-left job _ _ (l .r) (e .before .if1 .n) (b .pre .0) (l .inv .1) (g .1) (g .0) in
     let after = next c ∙ ap (λ k. stepped job (b .args .cylinders .now) (b .args .values .now) (l .r) k .run) low in
     let cs = b .args .cylinders .now in
     let vs = b .args .values .now in
