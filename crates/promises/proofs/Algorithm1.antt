@@ -252,7 +252,9 @@ module _ (job : Job) (c v : List ℤ) (J : JobFits job (length c)) (run : Run) (
       or-yes true = refl
       or-yes false = refl
 
--- DEMAND 2
+-- 7. DEMAND 2: "A delivered record updates the totals, then is sent by the kind's rule. A delivered barrier marks its channel; .. When all
+-- inputs of the task are marked, the same step clears these marks, stores the task's totals in the half-taken snapshot, and puts a barrier on
+-- every output. A source does so when it sends its waiting barrier." Accepted exactly when the rules hold is `check` of demand 1.
 pub demand-2 : (J : Columns) (run : Run) → Sized run → entry J run ≡ 0 → Demand2 J run
 unfolding begun cutOff stepOn stepsOn
 demand-2 J run S z =

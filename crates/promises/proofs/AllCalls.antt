@@ -246,7 +246,8 @@ module _ (J : Columns) where
         (ends-from k (s + 1) (next run) (stepped-fits (jobOf J) (J .cylinders) (J .values) run (low run) (accepted-fits J z) R F))))
         (λ e. nothing-left e (omega arith) refl)
 
--- THE CALLS ON ONE CHANNEL
+-- 8, THE CALLS ON ONE CHANNEL: "A channel that claims more than 8 items answers 16, adding to 8 items 14, taking from none 13, each with the
+-- channel as it came and, for taking, a barrier."
 pub channel-calls : (ch : Channel) (x : Item) → length (ch .items) ≡ 8 → ChannelCalls ch x
 channel-calls ch x wide = record {
   add-16 = added-16 ch x;
@@ -257,7 +258,7 @@ channel-calls ch x wide = record {
   take-0 = λ p l. (taken-0 ch p l, taken-holds ch wide p l);
 }
 
--- DEMAND 1
+-- 8. DEMAND 1: "Each refusal returns its number and the run as it came"; "Every other call on a run checks 1 to 9 first, then: 16"
 pub demand-1 : (J : Columns) (run : Run) → Sized run → Demand1 J run
 unfolding stepOn stepsOn drainOn directedOf
 demand-1 J run S =

@@ -20,6 +20,7 @@ use Rattle.drain.specs.Drains.{tasksLeft, channelsLeft, someLeft, possible, fir
 use Rattle.station.specs.Entries.{admittedOf, stepOn, stepsOn, drainOn}
 use Rattle.promises.specs.Table.{SingleTable}
 
+-- "Proved together as a single table over the definitions: 0 tasks, 1; 17 tasks, 1; Scale 1 of -5 is -2; .. its snapshot totals."
 pub single-table : SingleTable
 unfolding sentOn sentOver placeOf some every filled sweep sweeps jobOf jobAnswer firstFault capped cappedInflow
     fault1 fault2 fault3 fault4 fault5 fault6 badTask offTable badPart badRecord badRecords
