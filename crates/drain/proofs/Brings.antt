@@ -24,7 +24,7 @@ use Rattle.job.proofs.Bools.{both-true}
 use Rattle.job.proofs.Tests.{one-some}
 use Rattle.run.specs.declared.Run.{Run}
 use Rattle.run.specs.Runs.{noChannel, withChannels}
-use Rattle.run.specs.Fit.{channelAt, totalsAt, flagAt, cargoFits, Fits}
+use Rattle.run.specs.Fit.{channelAt, totalsAt, flagAt, countAt, cargoFits, Fits}
 use Rattle.outputs.specs.Outputs.{someFull}
 use Rattle.outputs.proofs.Sending.{set-self}
 use Rattle.step.specs.declared.Stepped.{Stepped}
@@ -92,7 +92,7 @@ module _ (job : Job) (cs vs : List ℤ) (run : Run) (n : ℕ) (J : JobFits job (
 
   pub acts : 32 ≤ n → n < 64
       → Acts (ltb (sourceOf n) (job .tasks)) (eqb (kindOf job (sourceOf n)) 0) (someFull job (run .channels) (sourceOf n))
-      (cond (ltb n 48) (ltb (offsetOf run (sourceOf n)) (natAbs (bOf job (sourceOf n)))) (flagAt (run .waiting) (sourceOf n)))
+      (cond (ltb n 48) (ltb (offsetOf run (sourceOf n)) (natAbs (bOf job (sourceOf n)))) (ltb 0 (countAt (run .waiting) (sourceOf n))))
   unfolding actsBy
   acts low high = acts-says _ _ _ _ (sym (source-ready job run cs vs n low high) ∙ p)
 
@@ -109,15 +109,15 @@ module _ (job : Job) (cs vs : List ℤ) (run : Run) (n : ℕ) (J : JobFits job (
       go : (b : Bool) → ltb n 32 ≡ b → someLeft job run ≡ true
       go true e =
           let d = delivers (ltb-true n 32 e) in
-          or-second (tasksLeft job run) (channelsLeft job run) (run .«under_way»)
+          or-second (tasksLeft job run) (channelsLeft job run) (ltb 0 (run .«under_way»))
           (one-some (λ c. not (eqb (channelAt run c .count) 0)) (job .channels) n (leb-false (job .channels) n (d .there))
           (ap not (d .held)))
       go false e =
           let a = acts (ltb-false n 32 e) h in
           let t = sourceOf n in
-          or-first (tasksLeft job run) (channelsLeft job run) (run .«under_way»)
+          or-first (tasksLeft job run) (channelsLeft job run) (ltb 0 (run .«under_way»))
           (one-some (taskLeft job run) (job .tasks) t (ltb-true t (job .tasks) (a .is-there))
-          (left-is (isSource job t) (ltb (offsetOf run t) (natAbs (bOf job t))) (flagAt (run .waiting) t) (ltb n 48) (a .is-source)
+          (left-is (isSource job t) (ltb (offsetOf run t) (natAbs (bOf job t))) (ltb 0 (countAt (run .waiting) t)) (ltb n 48) (a .is-source)
           (a .acts)))
 
   -- a read: the source's next record lies within the lent ones

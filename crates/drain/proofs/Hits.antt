@@ -1,7 +1,7 @@
 -- What the drain's own text computes, over plain variables: the search's test is `possible` (`hit`), and its element
 -- stores are the record taken in (`stores-are`).
 use mathlib.Core.Path.{_≡_, refl, sym, ap, ap₂, _∙_}
-use mathlib.Core.Bool.{Bool, true, false, cond}
+use mathlib.Core.Bool.{Bool, true, false}
 use mathlib.Core.List.{List}
 use Prim.Native.Nat.{ℕ, _%_, _≤_, _<_}
 use native.Mathlib.Nat.{mod-eq-of-lt}
@@ -20,7 +20,7 @@ use Rattle.job.specs.declared.Job.{Job}
 use Rattle.job.specs.Jobs.{JobSized, kindOf, bOf, toOf}
 use Rattle.run.specs.declared.Run.{Run}
 use Rattle.run.specs.Runs.{withChannels, withLive}
-use Rattle.run.specs.Fit.{channelAt, totalsAt, flagAt, Fits}
+use Rattle.run.specs.Fit.{channelAt, totalsAt, countAt, Fits}
 use Rattle.outputs.specs.Outputs.{someFull, putAll}
 use Rattle.outputs.proofs.Sending.{putTo}
 use Rattle.step.specs.Algorithm.{takenIn}
@@ -50,12 +50,12 @@ module _ (job : Job) (cs vs : List ℤ) (run : Run) (full : List Bool)
           ∙ sym (delivery-ready job run cs vs n l room)
 
   source-hit : 32 ≤ n → n < 64 → (let t = sourceOf n in
-      actsBy n (ltb t (job .tasks)) (kindOf job t) (bOf job t) (totalsAt (run .live) t .count) (flagAt (run .waiting) t) (getD full t false)
-      ≡ possible job cs vs run n)
+      actsBy n (ltb t (job .tasks)) (kindOf job t) (bOf job t) (totalsAt (run .live) t .count) (ltb 0 (countAt (run .waiting) t))
+      (getD full t false) ≡ possible job cs vs run n)
   source-hit low high =
       let t = sourceOf n in
-      ap (λ f. actsBy n (ltb t (job .tasks)) (kindOf job t) (bOf job t) (totalsAt (run .live) t .count) (flagAt (run .waiting) t) f) (noted t)
-      ∙ sym (source-ready job run cs vs n low high)
+      ap (actsBy n (ltb t (job .tasks)) (kindOf job t) (bOf job t) (totalsAt (run .live) t .count) (ltb 0 (countAt (run .waiting) t)))
+      (noted t) ∙ sym (source-ready job run cs vs n low high)
 
   pub hit : JobSized job → Fits job run → n < 64 → (x : ℕ) (ch : Channel) → x ≡ totalsAt (run .live) (taskBy (job .to) n) .count
       → ch ≡ channelAt run (channelBy n)

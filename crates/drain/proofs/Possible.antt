@@ -7,7 +7,7 @@ use native.Mathlib.Omega.{arith}
 use lib.Dec.{eqb, ltb, leb}
 use lib.IntN.{ℤ, natAbs}
 use lib.ListN.{set}
-use borrow.Author.Tests.{lt-ltb, le-ltb, leb-true, leb-false, ltb-true, ltb-false}
+use borrow.Author.Tests.{lt-ltb, le-ltb, leb-true, leb-false, ltb-true, ltb-false, ne-eqb, eq-eqb}
 use Rattle.channel.specs.declared.Cargo.{Cargo}
 use Rattle.channel.specs.declared.Cargo.the-variants.{Barrier, Record as Recorded}
 use Rattle.channel.specs.declared.Channel.{Channel}
@@ -15,7 +15,7 @@ use Rattle.channel.specs.Channels.{withoutHead}
 use Rattle.job.specs.declared.Job.{Job}
 use Rattle.job.specs.Jobs.{kindOf, bOf, toOf, isSource}
 use Rattle.run.specs.declared.Run.{Run}
-use Rattle.run.specs.Fit.{channelAt, totalsAt, flagAt}
+use Rattle.run.specs.Fit.{channelAt, totalsAt, flagAt, countAt}
 use Rattle.outputs.specs.Outputs.{someFull, allMarked, allStored}
 use Rattle.outputs.specs.Parts.{allMarkedBy}
 use Rattle.step.specs.declared.Stepped.{Stepped}
@@ -77,7 +77,8 @@ deliveryReady job run n =
 
 abbrev pub sourceReady : Job → Run → ℕ → ℕ → Bool
 sourceReady job run n t =
-    actsBy n (ltb t (job .tasks)) (kindOf job t) (bOf job t) (offsetOf run t) (flagAt (run .waiting) t) (someFull job (run .channels) t)
+    actsBy n (ltb t (job .tasks)) (kindOf job t) (bOf job t) (offsetOf run t) (ltb 0 (countAt (run .waiting) t))
+    (someFull job (run .channels) t)
 
 -- ---- the step by its number
 pub by-delivery : (job : Job) (cs vs : List ℤ) (run : Run) (n : ℕ) → n < 32 → stepped job cs vs run n ≡ delivered job run n
@@ -89,6 +90,14 @@ pub by-read : (job : Job) (cs vs : List ℤ) (run : Run) (n : ℕ) → 32 ≤ n 
 unfolding stepped
 by-read job cs vs run n low high = simp (le-ltb n 32 low, lt-ltb n 48 high)
 
+-- a barrier waits, or none does
+pub none-waits : (n : ℕ) → eqb n 0 ≡ not (ltb 0 n)
+none-waits n = go (ltb 0 n) refl
+  where
+    go : (b : Bool) → ltb 0 n ≡ b → eqb n 0 ≡ not b
+    go true e = ne-eqb n 0 (let l = ltb-true 0 n e in omega arith)
+    go false e = eq-eqb n 0 (let l = ltb-false 0 n e in omega arith)
+
 by-sending : (job : Job) (cs vs : List ℤ) (run : Run) (n : ℕ) → 48 ≤ n → n < 64 → stepped job cs vs run n ≡ barrierSent job run (n - 48)
 unfolding stepped
 by-sending job cs vs run n low high = simp (le-ltb n 32 (omega arith), le-ltb n 48 low, lt-ltb n 64 high)
@@ -97,7 +106,8 @@ module _ (job : Job) (run : Run) where
   completed-done : (next : Run) → isDone (completed job next .answer) ≡ true
   unfolding completed
   completed-done next =
-      cond-has (λ (s : Stepped). isDone (s .answer) ≡ true) (next .«under_way» && allStored job (next .stored)) (λ _. refl) (λ _. refl)
+      cond-has (λ (s : Stepped). isDone (s .answer) ≡ true) (ltb 0 (next .«under_way») && allStored job (next .stored)) (λ _. refl)
+      (λ _. refl)
 
   moves-ready : (c : ℕ) (cargo : Cargo) (rest : Channel) → isDone (withCargo job run c cargo rest .answer)
       ≡ headMoves (job .to) (run .marked) (job .channels) c cargo (someFull job (run .channels) (toOf job c))
@@ -131,8 +141,9 @@ module _ (job : Job) (run : Run) where
   sent-ready : (n t : ℕ) → 48 ≤ n → isDone (barrierSent job run t .answer) ≡ sourceReady job run n t
   unfolding barrierSent isNoSource actsBy
   sent-ready n t low =
-      simp (le-ltb n 48 low, ltb-not t (job .tasks))
-      (sent-plain (leb (job .tasks) t) (isSource job t) (flagAt (run .waiting) t) (someFull job (run .channels) t) run _ (completed-done _))
+      simp (le-ltb n 48 low, ltb-not t (job .tasks), none-waits (countAt (run .waiting) t))
+      (sent-plain (leb (job .tasks) t) (isSource job t) (ltb 0 (countAt (run .waiting) t)) (someFull job (run .channels) t) run _
+      (completed-done _))
 
   module _ (cs vs : List ℤ) (n : ℕ) where
     pub delivery-ready : n < 32 → channelAt run n .count ≤ 8 → possible job cs vs run n ≡ deliveryReady job run n

@@ -11,7 +11,7 @@ use Rattle.job.specs.declared.Job.{Job}
 use Rattle.job.specs.Tests.{some}
 use Rattle.job.specs.Jobs.{kindOf, bOf}
 use Rattle.run.specs.declared.Run.{Run}
-use Rattle.run.specs.Fit.{channelAt, flagAt}
+use Rattle.run.specs.Fit.{channelAt, countAt}
 use Rattle.step.specs.Step.{stepped, offsetOf}
 use Rattle.lists.specs.Lists.{isDone}
 use Rattle.drain.specs.declared.Drained.{Drained}
@@ -21,7 +21,7 @@ abbrev pub leftBy : ℕ → ℤ → ℕ → Bool → Bool
 leftBy kind b received waits = eqb kind 0 && ltb received (natAbs b) || waits
 
 abbrev pub taskLeft : Job → Run → ℕ → Bool
-taskLeft job run t = leftBy (kindOf job t) (bOf job t) (offsetOf run t) (flagAt (run .waiting) t)
+taskLeft job run t = leftBy (kindOf job t) (bOf job t) (offsetOf run t) (ltb 0 (countAt (run .waiting) t))
 
 unfoldable pub tasksLeft : Job → Run → Bool
 tasksLeft job run = some (taskLeft job run) (job .tasks)
@@ -30,7 +30,7 @@ unfoldable pub channelsLeft : Job → Run → Bool
 channelsLeft job run = some (λ c. not (eqb (channelAt run c .count) 0)) (job .channels)
 
 unfoldable pub someLeft : Job → Run → Bool
-someLeft job run = tasksLeft job run || channelsLeft job run || run .«under_way»
+someLeft job run = tasksLeft job run || channelsLeft job run || ltb 0 (run .«under_way»)
 
 -- ---- "A step is possible when it would answer 0 or 20."
 unfoldable pub possible : Job → List ℤ → List ℤ → Run → ℕ → Bool

@@ -29,7 +29,7 @@ fn tasks_left(job: Job, run: Run) -> bool
     let mut t: usize = 0;
     while t < n {
         let x = run.live[t];
-        found = found | task_left(job.kinds[t], job.b[t], x.count, run.waiting[t]);
+        found = found | task_left(job.kinds[t], job.b[t], x.count, 0 < run.waiting[t]);
         t += 1;
     }
     found
@@ -54,5 +54,5 @@ pub fn some_left(job: Job, run: Run) -> bool
     requires { ⌜ JobSized job ⌝ }
     ensures { λ r. ⌜ r ≡ someLeft job run ⌝ }
 {
-    tasks_left(job, run) | channels_left(job, run) | run.under_way
+    tasks_left(job, run) | channels_left(job, run) | (0 < run.under_way)
 }

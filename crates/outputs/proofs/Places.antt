@@ -1,15 +1,22 @@
 -- A loop that makes each place of a list anew: one turn of it, and what stands at each place afterwards.
 use mathlib.Core.Path.{_≡_, refl, sym, ap, ap₂, _∙_}
-use mathlib.Core.Bool.{Bool, true, false}
+use mathlib.Core.Bool.{Bool, true, false, cond}
 use mathlib.Core.List.{List}
 use Prim.Native.Nat.{ℕ, zero, suc, _+_, _<_, _≤_}
 use native.Mathlib.Numerals.{add-one}
 use native.Mathlib.Omega.{arith}
-use borrow.Author.Tests.{eqb-true, eqb-false}
-use lib.Dec.{eqb}
+use borrow.Author.Tests.{eqb-true, eqb-false, ltb-false}
+use lib.Dec.{eqb, ltb}
 use lib.ListN.{length, getD, set, length-set}
 use lib.Seq.{getD-set-same, getD-set-other}
-use Rattle.outputs.specs.Outputs.{eachPlace}
+use Rattle.outputs.specs.Outputs.{atMostOf, eachPlace}
+
+pub at-most : (n x : ℕ) → atMostOf n x ≤ n
+at-most n x = go (ltb n x) refl
+  where
+    go : (b : Bool) → ltb n x ≡ b → cond b n x ≤ n
+    go true e = omega arith
+    go false e = ltb-false n x e
 
 module _ {A : Type 0} (d : A) (f : ℕ → A → A) (l₀ : List A) where
   pub place-more : (i : ℕ) {l : List A} {x : A} → l ≡ eachPlace d f l₀ i → x ≡ f i (getD l i d) → set l i x ≡ eachPlace d f l₀ (i + 1)

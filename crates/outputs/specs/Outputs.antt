@@ -1,11 +1,10 @@
 -- A task's outputs and inputs, as the step rules speak of them: "some output channel of the task holds 8 items", "all inputs of the task
 -- are marked", "every task has stored", and what a barrier or a received record puts on every output.
-use mathlib.Core.Bool.{Bool, true, false, cond, not, _&&_, _||_}
+use mathlib.Core.Bool.{Bool, false, cond, not, _&&_, _||_}
 use mathlib.Core.List.{List}
-use Prim.Native.Nat.{ℕ, zero, suc}
-use lib.Dec.{leb}
+use Prim.Native.Nat.{ℕ, zero, suc, _+_}
+use lib.Dec.{ltb, leb}
 use lib.ListN.{getD, set}
-use Rattle.tally.specs.declared.Record.{Record}
 use Rattle.kinds.specs.declared.Sending.{Sending}
 use Rattle.kinds.specs.declared.Sending.the-variants.{Nothing, One}
 use Rattle.channel.specs.declared.Cargo.{Cargo}
@@ -30,8 +29,8 @@ unfoldable pub allMarked : Job → List Bool → ℕ → Bool
 allMarked job marked t = every (λ c. not (isInput job t c) || getD marked c false) (job .channels)
 
 -- "every task has stored"
-unfoldable pub allStored : Job → List Bool → Bool
-allStored job stored = every (λ t. getD stored t false) (job .tasks)
+unfoldable pub allStored : Job → List ℕ → Bool
+allStored job stored = every (λ t. ltb 0 (getD stored t 0)) (job .tasks)
 
 -- ---- each place below n anew, from what it held
 module _ {A : Type 0} where
@@ -43,9 +42,15 @@ module _ {A : Type 0} where
 unfoldable pub unmarked : Job → List Bool → ℕ → List Bool
 unmarked job marked t = eachPlace false (λ c mark. mark && not (isInput job t c)) marked (job .channels)
 
--- "every source gets a waiting barrier"
-unfoldable pub sourcesWait : Job → List Bool → List Bool
-sourcesWait job waiting = eachPlace false (λ t wait. wait || isSource job t) waiting (job .tasks)
+-- "every source gets a waiting barrier", beside those that wait there, which are at most the n under way
+abbrev pub atMostOf : ℕ → ℕ → ℕ
+atMostOf n x = cond (ltb n x) n x
+
+abbrev pub oneMoreWaits : ℕ → Bool → ℕ → ℕ
+oneMoreWaits n source waits = cond source (atMostOf n waits + 1) waits
+
+unfoldable pub sourcesWait : Job → ℕ → List ℕ → List ℕ
+sourcesWait job n waiting = eachPlace 0 (λ t waits. oneMoreWaits n (isSource job t) waits) waiting (job .tasks)
 
 -- ---- on every output
 abbrev pub put : Channel → Cargo → Channel

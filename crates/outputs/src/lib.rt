@@ -5,7 +5,7 @@ ghost use Prim.Native.Nat.{_<_};
 ghost use Rattle.job.specs.Jobs.{JobSized};
 ghost use Rattle.job.specs.Fits.{Sends};
 ghost use Rattle.run.specs.Fit.{cargoFits};
-ghost use Rattle.outputs.specs.Outputs.{isFull, someFull, allStored, unmarked, sourcesWait, putAll};
+ghost use Rattle.outputs.specs.Outputs.{isFull, someFull, allStored, unmarked, atMostOf, oneMoreWaits, sourcesWait, putAll};
 
 pub mod parts;
 
@@ -54,7 +54,7 @@ pub fn unmark(job: Job, marked: [bool; 32], t: usize) -> [bool; 32]
 }
 
 // Whether every task has stored its totals.
-pub fn all_stored(job: Job, stored: [bool; 16]) -> bool
+pub fn all_stored(job: Job, stored: [u8; 16]) -> bool
     requires { ⌜ JobSized job ⌝ }
     ensures { λ r. ⌜ r ≡ allStored job stored ⌝ }
 {
@@ -62,22 +62,44 @@ pub fn all_stored(job: Job, stored: [bool; 16]) -> bool
     let mut all = true;
     let mut t: usize = 0;
     while t < n {
-        all = all & stored[t];
+        all = all & (0 < stored[t]);
         t += 1;
     }
     all
 }
 
-// Every source gets a waiting barrier.
-pub fn sources_wait(job: Job, waiting: [bool; 16]) -> [bool; 16]
-    requires { ⌜ JobSized job ⌝ }
-    ensures { λ r. ⌜ r ≡ sourcesWait job waiting ⌝ }
+// `x`, and no more than `n`.
+fn at_most_of(n: u8, x: u8) -> u8
+    ensures { λ r. ⌜ r ≡ atMostOf n x ⌝ }
+{
+    if n < x {
+        return n;
+    }
+    x
+}
+
+// At a source one barrier waits besides those of the `n` under way.
+fn one_more_waits(n: u8, source: bool, waits: u8) -> u8
+    requires { ⌜ n < 255 ⌝ }
+    ensures { λ r. ⌜ r ≡ oneMoreWaits n source waits ⌝ }
+{
+    if source {
+        let m = at_most_of(n, waits);
+        return m + 1;
+    }
+    waits
+}
+
+// Every source gets a waiting barrier, besides those of the `under_way` snapshots.
+pub fn sources_wait(job: Job, under_way: u8, waiting: [u8; 16]) -> [u8; 16]
+    requires { ⌜ JobSized job × («under_way» < 255) ⌝ }
+    ensures { λ r. ⌜ r ≡ sourcesWait job «under_way» waiting ⌝ }
 {
     let n = job.tasks;
     let mut next = waiting;
     let mut t: usize = 0;
     while t < n {
-        next[t] = next[t] | (job.kinds[t] == 0);
+        next[t] = one_more_waits(under_way, job.kinds[t] == 0, next[t]);
         t += 1;
     }
     next

@@ -1,10 +1,10 @@
 -- 7. DEMAND 2 (`demand-2`): a step that the rules do not refuse does what Algorithm 1's handlers do on the task's own channels.
 use mathlib.Core.Path.{_≡_, refl, sym, ap, subst, _∙_}
-use mathlib.Core.Bool.{Bool, true, false, cond, not, _&&_, _||_, true≢false}
+use mathlib.Core.Bool.{Bool, true, false, cond, not, _&&_, true≢false}
 use mathlib.Core.List.{List, _∷_}
-use Prim.Native.Nat.{ℕ, _+_, _<_, _≤_}
+use Prim.Native.Nat.{ℕ, _+_, _<_, _≤_, _-_}
 use native.Mathlib.Omega.{arith}
-use borrow.Author.Tests.{eqb-true, eq-eqb, ltb-true, ltb-false, lt-leb}
+use borrow.Author.Tests.{eqb-true, eq-eqb, ltb-true, ltb-false, lt-leb, lt-ltb, ne-eqb}
 use lib.Dec.{ltb}
 use lib.IntN.{ℤ, natAbs}
 use lib.ListN.{length, getD, set, length-set}
@@ -23,10 +23,10 @@ use Rattle.job.proofs.Bools.{both-true}
 use Rattle.job.proofs.Tests.{every-all, all-every}
 use Rattle.run.specs.declared.Run.{Run}
 use Rattle.run.specs.Runs.{noChannel, withChannels, withMarked, withWaiting}
-use Rattle.run.specs.Fit.{Fits, channelAt, totalsAt, flagAt}
+use Rattle.run.specs.Fit.{Fits, channelAt, totalsAt, flagAt, countAt}
 use Rattle.run.proofs.Clauses.{and-of}
-use Rattle.outputs.specs.Outputs.{putAll, allStored, unmarked, sourcesWait}
-use Rattle.outputs.proofs.Places.{place-at, place-past}
+use Rattle.outputs.specs.Outputs.{putAll, allStored, unmarked, oneMoreWaits, sourcesWait}
+use Rattle.outputs.proofs.Places.{at-most, place-at, place-past}
 use Rattle.step.specs.declared.Stepped.{Stepped}
 use Rattle.step.specs.Algorithm.{answered, sealed, completed, storedBy, barrierReceived, takenIn, recordReceived}
 use Rattle.step.specs.Step.{withCargo, offsetOf, nextRecord, sourceRead, barrierSent, begun, cutOff, stepped}
@@ -35,6 +35,7 @@ use Rattle.station.specs.Entries.{entry, stepOn, stepsOn}
 use Rattle.station.proofs.Admission.{admitted}
 use Rattle.step.specs.Handlers.{Sized, Head, Open, Full, Completes, Source, HeadTaken, Sent, Received, Marked, Passed, Sealed}
 use Rattle.promises.specs.Demands.{Demand2}
+use Rattle.step.proofs.Fitting.{turn-first}
 use Rattle.promises.proofs.Conditions.{fails, not-full, is-completing, not-completing, is-source, head-count, head-is}
 use Rattle.promises.proofs.Conditions.{taken-rest, at-head, at-delivery, at-read, at-send, at-begin, at-cut}
 use Rattle.promises.proofs.Conditions.{entry-fits}
@@ -69,16 +70,19 @@ module _ (job : Job) (few : job .channels ≤ 32) where
   }
 
   -- 10 to 15, with the marks cleared
-  passed : (x : Run) (t : ℕ) (ms : List Bool) → Ready x t
+  passed : (x : Run) (t : ℕ) (ms : List Bool) → Ready x t → x .«under_way» ≤ 1
       → ((d : ℕ) → d < job .channels → toOf job d ≡ t → flagAt ms d ≡ false)
       → ((d : ℕ) → (d < job .channels → toOf job d ≡ t → ⊥) → flagAt ms d ≡ flagAt (x .marked) d)
       → Passed job x (storedBy job (withMarked ms x) t) t
   unfolding storedBy
-  passed x t ms R clear same = record {
+  passed x t ms R one clear same = record {
     cleared = clear;
     marks = same;
-    state = (getD-set-same (x .half) t _ noTotals (R .half), getD-set-same (x .stored) t true false (R .stored));
-    states = λ u ne. (getD-set-other (x .half) t u _ noTotals ne, getD-set-other (x .stored) t u true false ne);
+    state = (
+      getD-set-same (x .half) t _ noTotals (R .half),
+      getD-set-same (x .stored) t _ 0 (R .stored) ∙ ap (λ n. n + 1) (turn-first (countAt (x .stored) t) (x .«under_way») one),
+    );
+    states = λ u ne. (getD-set-other (x .half) t u _ noTotals ne, getD-set-other (x .stored) t u _ 0 ne);
     sent = sent Barrier x t R _ refl;
     rest = refl;
   }
@@ -87,12 +91,16 @@ module _ (job : Job) (few : job .channels ≤ 32) where
   unfolding completed allStored
   sealed-by y = record {
     all = λ a. ap (λ b. cond b (answered 20 (sealed y)) (answered 0 y))
-        (and-of (y .«under_way») (allStored job (y .stored)) (a .0) (all-every (flagAt (y .stored)) (job .tasks) (a .1)));
+        (and-of (ltb 0 (y .«under_way»)) (allStored job (y .stored)) (lt-ltb 0 (y .«under_way») (a .0))
+        (all-every (λ t. ltb 0 (countAt (y .stored) t)) (job .tasks) (λ t l. lt-ltb 0 (countAt (y .stored) t) (a .1 t l))));
     not-all = λ n. ap (λ b. cond b (answered 20 (sealed y)) (answered 0 y))
-        (fails (y .«under_way» && allStored job (y .stored))
+        (fails (ltb 0 (y .«under_way») && allStored job (y .stored))
         (λ e.
-        let p = both-true (y .«under_way») (allStored job (y .stored)) e in
-        (p .0, every-all (flagAt (y .stored)) (job .tasks) (p .1))) n);
+        let p = both-true (ltb 0 (y .«under_way»)) (allStored job (y .stored)) e in (
+          ltb-true 0 (y .«under_way») (p .0),
+          λ t l.
+              ltb-true 0 (countAt (y .stored) t) (every-all (λ t. ltb 0 (countAt (y .stored) t)) (job .tasks) (p .1) t l),
+        )) n);
   }
 
 module _ (job : Job) (c v : List ℤ) (J : JobFits job (length c)) (run : Run) (F : Fits job run) (S : Sized run) where
@@ -234,23 +242,25 @@ module _ (job : Job) (c v : List ℤ) (J : JobFits job (length c)) (run : Run) (
         not-full job (J .sends .sized) run F S t f,
       )
 
-  send-done : (t : ℕ) → Source job t → flagAt (run .waiting) t ≡ true → (Full job run t → ⊥)
-      → stepped job c v run (48 + t) ≡ completed job (storedBy job (withWaiting (set (run .waiting) t false) run) t)
+  send-done : (t : ℕ) → Source job t → 0 < countAt (run .waiting) t → (Full job run t → ⊥)
+      → stepped job c v run (48 + t)
+      ≡ completed job (storedBy job (withWaiting (set (run .waiting) t (countAt (run .waiting) t - 1)) run) t)
   unfolding barrierSent
   send-done t s w f =
       at-send job c v run t (tasks-few t (s .0))
-      ∙ simp (is-source job (J .sends .sized) run F S t s, w, not-full job (J .sends .sized) run F S t f)
+      ∙ simp (
+        is-source job (J .sends .sized) run F S t s,
+        ne-eqb (countAt (run .waiting) t) 0 (omega arith),
+        not-full job (J .sends .sized) run F S t f,
+      )
 
-  wait-at : (t : ℕ) → Source job t → flagAt (sourcesWait job (run .waiting)) t ≡ true
+  wait-at : run .«under_way» ≡ 0 → (t : ℕ) → Source job t → countAt (sourcesWait job (run .«under_way») (run .waiting)) t ≡ 1
   unfolding sourcesWait
-  wait-at t s =
-      place-at false (λ t wait. wait || isSource job t) (run .waiting) (job .tasks) t (s .0)
+  wait-at none t s =
+      place-at 0 (λ t waits. oneMoreWaits (run .«under_way») (isSource job t) waits) (run .waiting) (job .tasks) t (s .0)
       (omega (arith, S .waiting, J .sends .sized .few-tasks))
-      ∙ ap (λ b. flagAt (run .waiting) t || b) (s .1) ∙ or-yes (flagAt (run .waiting) t)
-    where
-      or-yes : (b : Bool) → b || true ≡ true
-      or-yes true = refl
-      or-yes false = refl
+      ∙ ap (λ b. oneMoreWaits (run .«under_way») b (countAt (run .waiting) t)) (s .1)
+      ∙ omega (arith, none, at-most (run .«under_way») (countAt (run .waiting) t))
 
 -- 7. DEMAND 2: "A delivered record updates the totals, then is sent by the kind's rule. A delivered barrier marks its channel; .. When all
 -- inputs of the task are marked, the same step clears these marks, stores the task's totals in the half-taken snapshot, and puts a barrier on
@@ -291,7 +301,7 @@ demand-2 J run S z =
             x job c v JF run F S n o Barrier h,
             _,
             taken job c v JF run F S n o Barrier h,
-            passed job few′ _ (toOf job n) _ (x-ready job c v JF run F S n o Barrier h f)
+            passed job few′ _ (toOf job n) _ (x-ready job c v JF run F S n o Barrier h f) (F .few)
                 (cleared job c v JF run F S n (o .0)) (kept job c v JF run F S n (o .0)),
             subst (Sealed job _) (sym e) (sealed-by job few′ _),
           );
@@ -305,15 +315,15 @@ demand-2 J run S z =
           let e = on run F (48 + t) ∙ send-done job c v JF run F S t s w f in
           let R = ready job c v JF run F S t (s .0) f in (
             _,
-            passed job few′ (withWaiting (set (run .waiting) t false) run) t (run .marked)
-                (record { queues = R .queues; live = R .live; half = R .half; stored = R .stored; room = R .room })
+            passed job few′ (withWaiting (set (run .waiting) t (countAt (run .waiting) t - 1)) run) t (run .marked)
+                (record { queues = R .queues; live = R .live; half = R .half; stored = R .stored; room = R .room }) (F .few)
                 (λ d l q. absurd (true≢false (sym (s .1) ∙ ap (isSource job) (sym q) ∙ JF .no-input d l))) (λ d out. refl),
             subst (Sealed job _) (sym e) (sealed-by job few′ _),
           );
       begin = λ u. (
-        sourcesWait job (run .waiting),
-        on run F 64 ∙ at-begin job c v run ∙ simp u,
-        wait-at job c v JF run F S,
+        sourcesWait job (run .«under_way») (run .waiting),
+        on run F 64 ∙ at-begin job c v run ∙ simp (lt-leb 1 (run .«under_way») (omega arith)),
+        wait-at job c v JF run F S u,
       );
       cut = on run F 65 ∙ at-cut job c v run;
       list = λ ns.

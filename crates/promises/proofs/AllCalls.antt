@@ -1,10 +1,10 @@
 -- 8. DEMAND 1 (`demand-1`): every call answers a number of the table, refuses exactly where the table says, and gives the run as it came.
 use mathlib.Core.Path.{_≡_, refl, sym, ap, subst, _∙_}
-use mathlib.Core.Bool.{Bool, true, false, not, _&&_, true≢false, false≢true}
+use mathlib.Core.Bool.{Bool, true, false, _&&_, true≢false}
 use mathlib.Core.List.{List, [], _∷_, _++_}
 use Prim.Native.Nat.{ℕ, zero, suc, _+_, _-_, _<_, _≤_}
 use native.Mathlib.Omega.{arith}
-use borrow.Author.Tests.{eqb-true, eqb-false, eq-eqb, ne-eqb, ltb-true, ltb-false, le-leb, lt-leb, leb-true, leb-false, not-false}
+use borrow.Author.Tests.{eqb-true, eqb-false, eq-eqb, ne-eqb, ltb-true, ltb-false, le-leb, lt-leb, leb-true, leb-false}
 use lib.Dec.{eqb, leb, ltb}
 use lib.IntN.{ℤ, natAbs}
 use lib.ListN.{length, set, take}
@@ -23,7 +23,7 @@ use Rattle.job.proofs.Exact.{exact}
 use Rattle.job.proofs.Fits.{accepted-fits}
 use Rattle.direct.specs.Direct.{directedOf}
 use Rattle.run.specs.declared.Run.{Run}
-use Rattle.run.specs.Fit.{Fits, channelAt, totalsAt, flagAt}
+use Rattle.run.specs.Fit.{Fits, channelAt, totalsAt, flagAt, countAt}
 use Rattle.outputs.specs.Outputs.{someFull, allMarked, allStored}
 use Rattle.step.specs.declared.Stepped.{Stepped}
 use Rattle.step.specs.Algorithm.{answered, completed, barrierReceived, recordReceived}
@@ -92,14 +92,18 @@ module _ (job : Job) (c v : List ℤ) (J : JobFits job (length c)) (run : Run) (
       at-send job c v run t (omega (arith, J .sends .sized .few-tasks, s .0)) ∙ simp (is-source job (J .sends .sized) run F S t s, w)
   refused-by n k (no-room-to-send {t} s w f) =
       at-send job c v run t (omega (arith, J .sends .sized .few-tasks, s .0))
-      ∙ simp (is-source job (J .sends .sized) run F S t s, w, is-full job (J .sends .sized) run F S t f)
-  refused-by n k (under-way u) = simp u
+      ∙ simp (
+        is-source job (J .sends .sized) run F S t s,
+        ne-eqb (countAt (run .waiting) t) 0 (omega arith),
+        is-full job (J .sends .sized) run F S t f,
+      )
+  refused-by n k (under-way u) = simp (le-leb 1 (run .«under_way») u)
   refused-by n k (no-such-step h) = at-none job c v run n h
 
   -- ---- a step that no line refuses is done
   completed-done : (next : Run) → Done (completed job next)
   unfolding completed
-  completed-done next = cond-has Done (next .«under_way» && allStored job (next .stored)) (λ _. refl) (λ _. refl)
+  completed-done next = cond-has Done (ltb 0 (next .«under_way») && allStored job (next .stored)) (λ _. refl) (λ _. refl)
 
   live-count : (t : ℕ) → t < job .tasks → totalsAt (run .live) t .count ≤ 1048576
   live-count t l = F .totals t l .live .counts
@@ -167,19 +171,17 @@ module _ (job : Job) (c v : List ℤ) (J : JobFits job (length c)) (run : Run) (
       cond-has Done (isNoSource job t)
       (λ e. absurd (none 11 (cannot-send l (λ s. true≢false (sym e ∙ is-source job (J .sends .sized) run F S t s)))))
       (λ s. let src = source-is job t s in
-      cond-has Done (not (flagAt (run .waiting) t))
-      (λ e. absurd (none 13 (none-waits src (not-true (flagAt (run .waiting) t) e))))
+      cond-has Done (eqb (countAt (run .waiting) t) 0)
+      (λ e. absurd (none 13 (none-waits src (eqb-true (countAt (run .waiting) t) 0 e))))
       (λ e. cond-has Done (someFull job (run .channels) t)
-      (λ f. absurd (none 14 (no-room-to-send src (not-false (flagAt (run .waiting) t) e) (full-is job (J .sends .sized) run F S t f))))
+      (λ f. let w = eqb-false (countAt (run .waiting) t) 0 e in
+      absurd (none 14 (no-room-to-send src (omega arith) (full-is job (J .sends .sized) run F S t f))))
       (λ _. completed-done _)))
-    where
-      not-true : (b : Bool) → not b ≡ true → b ≡ false
-      not-true true e = absurd (false≢true e)
-      not-true false e = refl
 
   begin-done : ((k : ℕ) → Refused job run 64 k → ⊥) → Done (begun job run)
   unfolding begun
-  begin-done none = cond-has Done (run .«under_way») (λ e. absurd (none 15 (under-way e))) (λ _. refl)
+  begin-done none =
+      cond-has Done (leb 1 (run .«under_way»)) (λ e. absurd (none 15 (under-way (leb-true 1 (run .«under_way») e)))) (λ _. refl)
 
   pub done-by : (n : ℕ) → ((k : ℕ) → Refused job run n k → ⊥) → Done (stepped job c v run n)
   unfolding stepped

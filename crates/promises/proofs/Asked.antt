@@ -2,35 +2,60 @@
 -- the run's totals and flags after a store.
 use mathlib.Core.Path.{_≡_, refl, sym, ap, ap₂, _∙_}
 use mathlib.Core.Bool.{Bool, true, false, cond, not, _&&_, _||_, false≢true}
-use mathlib.Core.List.{List}
+use mathlib.Core.List.{List, [], _∷_}
 use Prim.Native.Nat.{ℕ, zero, suc, _+_, _<_, _≤_}
 use native.Mathlib.Omega.{arith}
-use borrow.Author.Tests.{eqb-true, ne-eqb, ltb-true, ltb-false, lt-leb, le-leb}
+use borrow.Author.Tests.{eqb-true, eq-eqb, ne-eqb, leb-true, leb-false, ltb-true, ltb-false, lt-ltb, le-ltb}
 use lib.Dec.{eqb, ltb, leb}
 use lib.IntN.{ℤ}
-use lib.ListN.{length, getD, set, replicate}
-use Rattle.laws.specs.Below.{bit, allN}
+use lib.ListN.{length, getD, set, replicate, drop, drop-of-length-le, List·getD-eq-default}
+use Rattle.laws.specs.Below.{bit, allN, tab}
 use Rattle.laws.specs.Sums.{pick}
 use Rattle.laws.specs.Totals.{totMon, one-total}
-use Rattle.laws.specs.One.{OneRun}
-use Rattle.laws.specs.Base.{room1, marked1}
-use Rattle.laws.proofs.Below.{eqb-sym, all-ext}
+use Rattle.laws.specs.Invariant.{Order}
+use Rattle.laws.specs.Step.{roomB}
+use Rattle.run.specs.declared.Run.{Run}
+use Rattle.laws.proofs.Below.{eqb-sym, all-ext, length-tab}
 use Rattle.laws.proofs.Sums.{unit-r}
-use Rattle.tally.specs.declared.Record.{Record}
 use Rattle.tally.specs.declared.Totals.{Totals}
 use Rattle.tally.specs.Totals.{noTotals, withValue}
 use Rattle.tally.proofs.Fold.{encode, encode-with}
-use Rattle.channel.specs.declared.Channel.{Channel}
 use Rattle.job.specs.declared.Job.{Job}
 use Rattle.job.specs.Tests.{some, every}
 use Rattle.job.specs.Jobs.{fromOf, toOf, isSource, isInput, isOutput}
 use Rattle.job.specs.Fits.{JobFits}
 use Rattle.run.specs.Runs.{noChannel}
-use Rattle.run.specs.Fit.{totalsAt, flagAt}
-use Rattle.outputs.specs.Outputs.{isFull, someFull, allMarked, allStored, unmarked, sourcesWait}
+use Rattle.run.specs.Fit.{totalsAt, flagAt, countAt, Fits}
+use Rattle.outputs.specs.Outputs.{isFull, someFull, allMarked, allStored, unmarked}
 use Rattle.outputs.proofs.Places.{place-at, place-past}
-use Rattle.promises.proofs.Reading.{endOf, end-is, end-out, sourceOf, source-is, source-out, offsetIn, readJob}
+use Rattle.step.specs.Step.{isNoSource}
+use Rattle.step.proofs.Fitting.{replicate-has}
+use Rattle.drain.proofs.Possible.{ltb-not}
+use Rattle.promises.proofs.Reading.{endOf, toAt, end-is, end-out, sourceOf, source-is, offsetIn, at, readJob, Sized}
 use Rattle.promises.proofs.Held.{set-at, Queues, chansOf, held-length}
+
+-- ---- lists
+-- what stands anywhere in a list of one value, or past it
+pub same-at : {A : Type 0} (n i : ℕ) (x : A) → getD (replicate n x) i x ≡ x
+same-at n i x = replicate-has (λ y. y ≡ x) n x x i refl refl
+
+-- what stands at the places that the job lacks, and past the list's end
+pub far-at : {A : Type 0} (l : List A) (d : A) (size from i : ℕ) → length l ≡ size → ((i : ℕ) → from ≤ i → i < size → getD l i d ≡ d)
+    → from ≤ i → getD l i d ≡ d
+far-at l d size from i e h out = go (ltb i size) refl
+  where
+    go : (b : Bool) → ltb i size ≡ b → getD l i d ≡ d
+    go true q = h i out (ltb-true i size q)
+    go false q = List·getD-eq-default l d (omega (arith, ltb-false i size q))
+
+-- a table from its place k on
+pub tab-more : {A : Type 0} (n k : ℕ) (f : ℕ → A) → k < n → drop k (tab n f) ≡ f k ∷ drop (suc k) (tab n f)
+tab-more zero k f h = absurd (omega arith)
+tab-more (suc n) zero f h = refl
+tab-more (suc n) (suc k) f h = tab-more n k (λ i. f (suc i)) (omega arith)
+
+pub tab-out : {A : Type 0} (n k : ℕ) (f : ℕ → A) → n ≤ k → drop k (tab n f) ≡ []
+tab-out n k f h = drop-of-length-le (tab n f) {i = k} (omega (arith, length-tab n f))
 
 -- ---- tests of all numbers below n
 every-all : (p : ℕ → Bool) (n : ℕ) → every p n ≡ allN n p
@@ -55,61 +80,80 @@ none-all p (suc n) = swap (some p n) (p n) ∙ ap (λ b. cond (not (p n)) b fals
     swap false true = refl
     swap false false = refl
 
-pub less-not : (n k : ℕ) → ltb n k ≡ not (leb k n)
-less-not n k = go (ltb n k) refl
-  where
-    go : (b : Bool) → ltb n k ≡ b → b ≡ not (leb k n)
-    go true e = sym (ap not (lt-leb k n (ltb-true n k e)))
-    go false e = sym (ap not (le-leb k n (ltb-false n k e)))
+pub guarded : {A : Type 0} (a b : Bool) (x y : A) → cond (a && b) x y ≡ cond a (cond (a && b) x y) y
+guarded true b x y = refl
+guarded false b x y = refl
 
-module _ (job : Job) (cylinders values : List ℤ) (J : JobFits job (length cylinders)) (s : OneRun Record (totMon .Car)) where
+pub no-source : (job : Job) (t : ℕ) → isNoSource job t ≡ not (sourceOf job t)
+unfolding isNoSource
+no-source job t = go (leb (job .tasks) t) (isSource job t) ∙ ap (λ b. not (b && isSource job t)) (sym (ltb-not t (job .tasks)))
+  where
+    go : (x y : Bool) → x || not y ≡ not (not x && y)
+    go true y = refl
+    go false y = refl
+
+-- a count that fits is the greatest where it is no less
+pub full-eq : (n : ℕ) → n ≤ 1048576 → eqb n 1048576 ≡ leb 1048576 n
+full-eq n h = go (leb 1048576 n) refl
+  where
+    go : (b : Bool) → leb 1048576 n ≡ b → eqb n 1048576 ≡ b
+    go true e = eq-eqb n 1048576 (omega (arith, leb-true 1048576 n e))
+    go false e = ne-eqb n 1048576 (λ q. omega (arith, leb-false 1048576 n e))
+
+-- a mark stands above what is stored
+pub over : (n : ℕ) (b : Bool) → ltb n (n + bit b) ≡ b
+over n true = lt-ltb n (n + 1) (omega arith)
+over n false = le-ltb n (n + 0) (omega arith)
+
+module _ (job : Job) (cylinders values : List ℤ) (J : JobFits job (length cylinders)) where
   -- "some output channel of the task holds 8 items"
-  pub room-is : (l : List Channel) → Queues l → ((c : ℕ) → s .chan c ≡ chansOf l c) → (t : ℕ)
-      → room1 (readJob job cylinders values J) s t ≡ not (someFull job l t)
+  pub room-is : (run : Run) → Queues (run .channels) → (t : ℕ)
+      → roomB (readJob job cylinders values J) (at job run) t ≡ not (someFull job (run .channels) t)
   unfolding someFull
-  room-is l Q same t =
-      all-ext (job .channels) _ (λ c. not (isOutput job t c && isFull (getD l c noChannel))) (λ c h. one c h)
-      ∙ sym (none-all (λ c. isOutput job t c && isFull (getD l c noChannel)) (job .channels))
+  room-is run Q t =
+      all-ext (job .channels) _ (λ c. not (isOutput job t c && isFull (getD (run .channels) c noChannel))) (λ c h. one c h)
+      ∙ sym (none-all (λ c. isOutput job t c && isFull (getD (run .channels) c noChannel)) (job .channels))
     where
       go : (b y : Bool) → cond b (not y) true ≡ not (b && y)
       go true y = refl
       go false y = refl
 
       one : (c : ℕ) → c < job .channels
-          → cond (eqb (endOf job (fromOf job) c) t) (ltb (length (s .chan c)) 8) true
-          ≡ not (isOutput job t c && isFull (getD l c noChannel))
+          → cond (eqb (endOf job (fromOf job) c) t) (ltb (length (chansOf (run .channels) c)) 8) true
+          ≡ not (isOutput job t c && isFull (getD (run .channels) c noChannel))
       one c h =
           let lc : c < 32 = omega (arith, J .sends .sized .few-channels) in
           ap₂ (λ u n. cond (eqb u t) (ltb n 8) true) (end-is job (fromOf job) c h)
-          (ap length (same c) ∙ held-length (getD l c noChannel) (Q .places c lc) (Q .few c lc))
-          ∙ ap (λ b. cond (isOutput job t c) b true) (less-not (getD l c noChannel .count) 8)
-          ∙ go (isOutput job t c) (isFull (getD l c noChannel))
+          (held-length (getD (run .channels) c noChannel) (Q .places c lc) (Q .few c lc))
+          ∙ ap (λ b. cond (isOutput job t c) b true) (ltb-not (getD (run .channels) c noChannel .count) 8)
+          ∙ go (isOutput job t c) (isFull (getD (run .channels) c noChannel))
 
   -- "all inputs of the task are marked"
-  pub marked-is : (marks : List Bool) → ((c : ℕ) → s .mark c ≡ flagAt marks c) → (t : ℕ)
-      → marked1 (readJob job cylinders values J) s t ≡ allMarked job marks t
+  pub marked-is : (stored : List ℕ) (gone : ℕ → ℕ) (marks : List Bool) (t : ℕ)
+      → ((c : ℕ) → toAt job c ≡ t → ltb (getD stored t 0) (gone c) ≡ flagAt marks c)
+      → allN (job .channels) (λ c. cond (eqb (toAt job c) t) (ltb (getD stored t 0) (gone c)) true) ≡ allMarked job marks t
   unfolding allMarked
-  marked-is marks same t =
-      all-ext (job .channels) _ (λ c. not (isInput job t c) || flagAt marks c) (λ c h. one c h)
+  marked-is stored gone marks t same =
+      all-ext (job .channels) _ (λ c. not (isInput job t c) || flagAt marks c) one
       ∙ sym (every-all (λ c. not (isInput job t c) || flagAt marks c) (job .channels))
     where
-      go : (b y : Bool) → cond b y true ≡ not b || y
-      go true y = refl
-      go false y = refl
-
       one : (c : ℕ) → c < job .channels
-          → cond (eqb (endOf job (toOf job) c) t) (s .mark c) true ≡ not (isInput job t c) || flagAt marks c
-      one c h =
-          ap₂ (λ u b. cond (eqb u t) b true) (end-is job (toOf job) c h) (same c) ∙ go (isInput job t c) (flagAt marks c)
+          → cond (eqb (toAt job c) t) (ltb (getD stored t 0) (gone c)) true ≡ not (isInput job t c) || flagAt marks c
+      one c h = go (eqb (toAt job c) t) refl
+          ∙ ap (λ u. not (eqb u t) || flagAt marks c) (end-is job (toOf job) c h)
+        where
+          go : (b : Bool) → eqb (toAt job c) t ≡ b → cond b (ltb (getD stored t 0) (gone c)) true ≡ not b || flagAt marks c
+          go true e = same c (eqb-true (toAt job c) t e)
+          go false e = refl
 
 -- "every task has stored"
-pub stored-is : (job : Job) (l : List Bool) → allStored job l ≡ allN (job .tasks) (flagAt l)
+pub stored-is : (job : Job) (l : List ℕ) → allStored job l ≡ allN (job .tasks) (λ t. ltb 0 (countAt l t))
 unfolding allStored
-stored-is job l = every-all (λ t. getD l t false) (job .tasks)
+stored-is job l = every-all (λ t. ltb 0 (countAt l t)) (job .tasks)
 
 -- "clears these marks": those of the task's inputs
 pub unmarked-at : (job : Job) (l : List Bool) (t : ℕ) → job .channels ≤ length l → t < job .tasks → (c : ℕ)
-    → flagAt (unmarked job l t) c ≡ cond (eqb (endOf job (toOf job) c) t) false (flagAt l c)
+    → flagAt (unmarked job l t) c ≡ cond (eqb (toAt job c) t) false (flagAt l c)
 unfolding unmarked
 unmarked-at job l t few lt c = go (ltb c (job .channels)) refl
   where
@@ -120,7 +164,7 @@ unmarked-at job l t few lt c = go (ltb c (job .channels)) refl
     cleared false false = refl
 
     go : (b : Bool) → ltb c (job .channels) ≡ b
-        → flagAt (unmarked job l t) c ≡ cond (eqb (endOf job (toOf job) c) t) false (flagAt l c)
+        → flagAt (unmarked job l t) c ≡ cond (eqb (toAt job c) t) false (flagAt l c)
     go true e =
         let lc : c < job .channels = ltb-true c (job .channels) e in
         place-at false (λ c mark. mark && not (isInput job t c)) l (job .channels) c lc few
@@ -128,37 +172,7 @@ unmarked-at job l t few lt c = go (ltb c (job .channels)) refl
     go false e =
         let out : job .channels ≤ c = ltb-false c (job .channels) e in
         place-past false (λ c mark. mark && not (isInput job t c)) l (job .channels) c out
-        ∙ ap (λ b. cond b false (flagAt l c)) (sym (ne-eqb (endOf job (toOf job) c) t (λ q. omega (arith, end-out job (toOf job) c out))))
-
--- "every source gets a waiting barrier", where one waits only at sources
-pub sources-wait : (job : Job) (l : List Bool) → job .tasks ≤ length l → ((t : ℕ) → flagAt l t ≡ true → sourceOf job t ≡ true) → (t : ℕ)
-    → flagAt (sourcesWait job l) t ≡ sourceOf job t
-unfolding sourcesWait
-sources-wait job l few only t = go (ltb t (job .tasks)) refl
-  where
-    joined : (x y : Bool) → (x ≡ true → y ≡ true) → x || y ≡ y
-    joined true y h = sym (h refl)
-    joined false y h = refl
-
-    off : (x y : Bool) → (x ≡ true → y ≡ true) → y ≡ false → x ≡ y
-    off true y h e = absurd (false≢true (sym e ∙ h refl))
-    off false y h e = sym e
-
-    go : (b : Bool) → ltb t (job .tasks) ≡ b → flagAt (sourcesWait job l) t ≡ sourceOf job t
-    go true e =
-        let lt : t < job .tasks = ltb-true t (job .tasks) e in
-        place-at false (λ t wait. wait || isSource job t) l (job .tasks) t lt few
-        ∙ ap (λ b. flagAt l t || b) (sym (source-is job t lt)) ∙ joined (flagAt l t) (sourceOf job t) (only t)
-    go false e =
-        let out : job .tasks ≤ t = ltb-false t (job .tasks) e in
-        place-past false (λ t wait. wait || isSource job t) l (job .tasks) t out
-        ∙ off (flagAt l t) (sourceOf job t) (only t) (source-out job t out)
-
--- nothing is held in a list that was emptied
-pub emptied : {A : Type 0} (n : ℕ) (x : A) (i : ℕ) → getD (replicate n x) i x ≡ x
-emptied zero x i = refl
-emptied (suc n) x zero = refl
-emptied (suc n) x (suc i) = emptied n x i
+        ∙ ap (λ b. cond b false (flagAt l c)) (sym (ne-eqb (toAt job c) t (λ q. omega (arith, end-out job (toOf job) c out))))
 
 -- ---- totals
 -- a value counted at t
@@ -198,3 +212,38 @@ offset-same job l t x h src v = ap (λ (y : Totals). cond (sourceOf job v) (y .c
         let off : sourceOf job v ≡ false = ap (sourceOf job) (eqb-true v t e) ∙ src in
         ap (λ b. cond b (x .count) 0) off ∙ ap (λ b. cond b (totalsAt l v .count) 0) (sym off)
     go false e = refl
+
+-- ---- what the fit says of every place, and the order of barriers of its counts
+module _ (job : Job) (run : Run) (F : Fits job run) (S : Sized run) where
+  stored-far : (v : ℕ) → job .tasks ≤ v → countAt (run .stored) v ≡ 0
+  stored-far v = far-at (run .stored) 0 16 (job .tasks) v (S .stored) (λ i h l. F .no-task i h l .stored)
+
+  wait-far : (v : ℕ) → job .tasks ≤ v → countAt (run .waiting) v ≡ 0
+  wait-far v = far-at (run .waiting) 0 16 (job .tasks) v (S .waiting) (λ i h l. F .no-task i h l .waiting)
+
+  pub mark-far : (c : ℕ) → job .channels ≤ c → flagAt (run .marked) c ≡ false
+  mark-far c = far-at (run .marked) false 32 (job .channels) c (S .marked) (λ i h l. F .no-channel i h l .1)
+
+  pub wait-other : (v : ℕ) → v < job .tasks → isSource job v ≡ false → countAt (run .waiting) v ≡ 0
+  wait-other v lv e = go (ltb 0 (countAt (run .waiting) v)) refl
+    where
+      go : (b : Bool) → ltb 0 (countAt (run .waiting) v) ≡ b → countAt (run .waiting) v ≡ 0
+      go true q = absurd (false≢true (sym e ∙ F .waits v lv (ltb-true 0 (countAt (run .waiting) v) q)))
+      go false q = omega (arith, ltb-false 0 (countAt (run .waiting) v) q)
+
+module _ (job : Job) (cylinders values : List ℤ) (J : JobFits job (length cylinders)) (run : Run) (F : Fits job run) (S : Sized run)
+    (O : Order (readJob job cylinders values J) (at job run)) where
+  pub idle : (v : ℕ) → countAt (run .stored) v ≤ run .«under_way»
+  idle v = go (ltb v (job .tasks)) refl
+    where
+      go : (b : Bool) → ltb v (job .tasks) ≡ b → countAt (run .stored) v ≤ run .«under_way»
+      go true q = O .idle v (ltb-true v (job .tasks) q)
+      go false q = omega (arith, stored-far job run F S v (ltb-false v (job .tasks) q))
+
+  pub wait-most : (v : ℕ) → countAt (run .waiting) v ≤ run .«under_way»
+  wait-most v = go (ltb v (job .tasks)) refl (isSource job v) refl
+    where
+      go : (b : Bool) → ltb v (job .tasks) ≡ b → (x : Bool) → isSource job v ≡ x → countAt (run .waiting) v ≤ run .«under_way»
+      go true q true e = let lv = ltb-true v (job .tasks) q in omega (arith, O .wait-eq v lv (source-is job v lv ∙ e))
+      go true q false e = omega (arith, wait-other job run F S v (ltb-true v (job .tasks) q) e)
+      go false q x e = omega (arith, wait-far job run F S v (ltb-false v (job .tasks) q))

@@ -13,7 +13,7 @@ use Rattle.job.specs.Table.{table}
 use Rattle.direct.specs.Direct.{readBy, receivedBy, directTotals, fault35, totalsOfAll, directedOf}
 use Rattle.run.specs.Fit.{runFits, channelsFit, tasksFit, taskFits, limitOf, totalsFit, placeFits, channelFits}
 use Rattle.outputs.specs.Outputs.{someFull, allMarked, allStored, eachPlace, unmarked, sourcesWait, putOn, putAll}
-use Rattle.step.specs.Algorithm.{completed, storedBy, barrierReceived, takenIn, recordReceived}
+use Rattle.step.specs.Algorithm.{turnOf, completed, storedBy, barrierReceived, takenIn, recordReceived}
 use Rattle.step.specs.Step.{withTaken, delivered, isNoSource, nextRecord, sourceRead, barrierSent, begun, cutOff, stepped}
 use Rattle.lists.specs.Lists.{listedTo}
 use Rattle.drain.specs.Drains.{tasksLeft, channelsLeft, someLeft, possible, firstFrom, lowest, drainedOf}
@@ -27,7 +27,7 @@ unfolding sentOn sentOver placeOf some every filled sweep sweeps jobOf jobAnswer
     hasInput fault7 fault8 fault9 strike struckTasks worstAnew worstCounts
     readBy receivedBy directTotals fault35 totalsOfAll directedOf
     runFits channelsFit tasksFit taskFits limitOf totalsFit placeFits channelFits
-    withItem withoutHead someFull allMarked allStored eachPlace unmarked sourcesWait putOn putAll
+    withItem withoutHead someFull allMarked allStored eachPlace unmarked sourcesWait turnOf putOn putAll
     completed storedBy barrierReceived takenIn recordReceived
     withTaken delivered isNoSource nextRecord sourceRead barrierSent begun cutOff stepped
     listedTo stepOn stepsOn admittedOf tasksLeft channelsLeft someLeft possible firstFrom lowest drainedOf drainOn

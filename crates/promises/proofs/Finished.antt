@@ -1,12 +1,12 @@
 -- Statement 3, the drain: on a grown run it answers 0 or 18, with limit enough 0, and after a 0 nothing is left and the live totals are
 -- direct evaluation's over every record that the sources are to read. A drain is some steps one after another (`drain-path`).
 use mathlib.Core.Path.{_≡_, refl, sym, ap, ap₂, subst, _∙_}
-use mathlib.Core.Bool.{Bool, true, false, cond, not, _&&_, _||_, true≢false}
+use mathlib.Core.Bool.{Bool, true, false, cond, _&&_, _||_}
 use mathlib.Core.List.{List, [], _∷_}
 use mathlib.Core.Logic.{_⊎_, inl, inr}
 use Prim.Native.Nat.{ℕ, zero, suc, _+_, _<_, _≤_}
 use native.Mathlib.Omega.{arith}
-use borrow.Author.Tests.{eqb-true, not-false, ltb-true, ltb-false}
+use borrow.Author.Tests.{eqb-true, not-false, ltb-true, ltb-false, lt-ltb}
 use lib.Dec.{eqb, ltb}
 use lib.IntN.{natAbs}
 use lib.ListN.{length, getD, take}
@@ -26,7 +26,7 @@ use Rattle.job.proofs.Bools.{neither}
 use Rattle.job.proofs.Tests.{some-none}
 use Rattle.direct.specs.Direct.{directedOf}
 use Rattle.run.specs.declared.Run.{Run}
-use Rattle.run.specs.Fit.{channelAt, flagAt}
+use Rattle.run.specs.Fit.{channelAt, countAt}
 use Rattle.step.specs.declared.Stepped.{Stepped}
 use Rattle.step.specs.Step.{offsetOf}
 use Rattle.drain.specs.declared.Drained.{Drained}
@@ -41,24 +41,17 @@ use Rattle.promises.proofs.Grows.{lowestIn, drainedIn, theJob, lawJob, 
 use Rattle.promises.proofs.Grows.{goes-grown}
 use Rattle.promises.proofs.Evaluated.{part-long}
 use Rattle.promises.proofs.Counted.{directed-is, law-accepted}
-use Rattle.promises.proofs.Flags.{step-flags}
+use Rattle.promises.proofs.Flags.{or-false, or-true, step-flags}
 use Rattle.promises.proofs.Emptied.{lowest-fine, by-turns, drain-keeps, drain-answers, drain-none, drain-spent}
 use Rattle.promises.proofs.Twins.{Twin, twins}
 
 -- a snapshot is under way or complete, before and after a step that answers 20 or another number
-flags-kept : (u c q : Bool) → u || c ≡ true → (u && not q) || (c || q) ≡ true
-flags-kept true true true e = refl
-flags-kept true true false e = refl
-flags-kept true false true e = refl
-flags-kept true false false e = refl
-flags-kept false true q e = refl
-flags-kept false false q e = absurd (true≢false (sym e))
+flags-kept : (u : ℕ) (c q : Bool) → ltb 0 u || c ≡ true → ltb 0 (cond q 0 u) || (c || q) ≡ true
+flags-kept u c true e = sym (or-true c)
+flags-kept u c false e = ap (λ d. ltb 0 u || d) (sym (or-false c)) ∙ e
 
 module _ (J : Columns) (ok : jobAnswer J ≡ 0) where
   -- the drain of a run that goes along
-  abbrev drainedFrom : ℕ → ℕ → Run → Drained
-  drainedFrom k steps run = drainedIn J k steps run
-
   pub goes-drain : (k steps : ℕ) (run : Run) → Goes J ok run → Goes J ok (drainedIn J k steps run .run)
   goes-drain =
       drain-keeps (jobOf J) (J .cylinders) (J .values) (Goes J ok)
@@ -108,17 +101,17 @@ module _ (J : Columns) (ok : jobAnswer J ≡ 0) where
   nothing : (run : Run) → Goes J ok run → someLeft (jobOf J) run ≡ false → NothingLeft J run
   unfolding someLeft tasksLeft channelsLeft
   nothing run A e =
-      let two = neither _ (run .«under_way») e in
+      let two = neither _ (ltb 0 (run .«under_way»)) e in
       let one = neither (tasksLeft (jobOf J) run) (channelsLeft (jobOf J) run) (two .0) in
       record {
         read-out = λ s l src. read s l src (task (one .0) s l .0);
         empty = λ c l. eqb-true (channelAt run c .count) 0 (not-false _ (some-none _ (jobOf J .channels) (one .1) c l));
-        none-waits = λ s l. task (one .0) s l .1;
-        none-under-way = two .1;
+        none-waits = λ s l. omega (arith, ltb-false 0 (countAt (run .waiting) s) (task (one .0) s l .1));
+        none-under-way = omega (arith, ltb-false 0 (run .«under_way») (two .1));
       }
     where
       task : tasksLeft (jobOf J) run ≡ false → (s : ℕ) → s < jobOf J .tasks
-          → (isSource (jobOf J) s && ltb (offsetOf run s) (natAbs (bOf (jobOf J) s)) ≡ false) × (flagAt (run .waiting) s ≡ false)
+          → (isSource (jobOf J) s && ltb (offsetOf run s) (natAbs (bOf (jobOf J) s)) ≡ false) × (ltb 0 (countAt (run .waiting) s) ≡ false)
       task z s l = neither _ _ (some-none (taskLeft (jobOf J) run) (jobOf J .tasks) z s l)
 
       read : (s : ℕ) → s < jobOf J .tasks → isSource (jobOf J) s ≡ true
@@ -207,21 +200,21 @@ module _ (J : Columns) (ok : jobAnswer J ≡ 0) where
         omega (arith, f e)
 
     -- under way or complete: so it is after every step of 0 to 63
-    completes : drainOn J (grown J ks) limit .answer ≡ 0 → grown J ks .«under_way» ≡ true
+    completes : drainOn J (grown J ks) limit .answer ≡ 0 → 0 < grown J ks .«under_way»
         → drainOn J (grown J ks) limit .run .complete ≡ true
     completes e u =
-        let kept : drainOn J (grown J ks) limit .run .«under_way» || drainOn J (grown J ks) limit .run .complete ≡ true =
-        subst (λ (d : Drained). d .run .«under_way» || d .run .complete ≡ true) (sym is)
-        (drain-keeps (jobOf J) (J .cylinders) (J .values) (λ run. run .«under_way» || run .complete ≡ true) keep limit 0 (grown J ks)
-        (ap (λ b. b || grown J ks .complete) u)) in
-        sym (ap (λ b. b || drainOn J (grown J ks) limit .run .complete) (nothing _ goes-end (ended-none e) .none-under-way)) ∙ kept
+        let kept : ltb 0 (drainOn J (grown J ks) limit .run .«under_way») || drainOn J (grown J ks) limit .run .complete ≡ true =
+        subst (λ (d : Drained). ltb 0 (d .run .«under_way») || d .run .complete ≡ true) (sym is)
+        (drain-keeps (jobOf J) (J .cylinders) (J .values) (λ run. ltb 0 (run .«under_way») || run .complete ≡ true) keep limit 0
+        (grown J ks) (ap (λ b. b || grown J ks .complete) (lt-ltb 0 (grown J ks .«under_way») u))) in
+        sym (ap (λ n. ltb 0 n || drainOn J (grown J ks) limit .run .complete) (nothing _ goes-end (ended-none e) .none-under-way)) ∙ kept
       where
-        keep : (run : Run) (n : ℕ) → n < 64 → run .«under_way» || run .complete ≡ true
-            → steppedIn J run n .run .«under_way»
+        keep : (run : Run) (n : ℕ) → n < 64 → ltb 0 (run .«under_way») || run .complete ≡ true
+            → ltb 0 (steppedIn J run n .run .«under_way»)
             || steppedIn J run n .run .complete ≡ true
         keep run n l e =
             let f = step-flags run (jobOf J) (J .cylinders) (J .values) n l in
-            ap₂ _||_ (f .under-way) (f .complete) ∙ flags-kept (run .«under_way») (run .complete)
+            ap₂ (λ n d. ltb 0 n || d) (f .under-way) (f .complete) ∙ flags-kept (run .«under_way») (run .complete)
             (eqb (steppedIn J run n .answer) 20) e
 
   -- THE DRAIN

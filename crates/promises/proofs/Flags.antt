@@ -1,7 +1,7 @@
 -- What an answer 20 says of a run's two flags, and nothing but it: the last complete snapshot is there after a 20 or where it was there
 -- before, and of the steps 0 to 63 a 20 alone ends a snapshot that is under way (`step-flags`).
 use mathlib.Core.Path.{_≡_, refl, sym, ap, _∙_}
-use mathlib.Core.Bool.{Bool, true, false, not, _&&_, _||_}
+use mathlib.Core.Bool.{Bool, true, false, _&&_, _||_, cond}
 use mathlib.Core.List.{List}
 use Prim.Native.Nat.{ℕ, _-_, _<_, _≤_}
 use native.Mathlib.Omega.{arith}
@@ -17,33 +17,25 @@ use Rattle.channel.specs.Channels.{withoutHead}
 use Rattle.job.specs.declared.Job.{Job}
 use Rattle.job.specs.Jobs.{bOf, toOf}
 use Rattle.run.specs.declared.Run.{Run}
-use Rattle.run.specs.Fit.{channelAt, totalsAt, flagAt}
+use Rattle.run.specs.Fit.{channelAt, totalsAt, flagAt, countAt}
 use Rattle.outputs.specs.Outputs.{someFull, allMarked, allStored}
 use Rattle.step.specs.declared.Stepped.{Stepped}
-use Rattle.step.specs.Algorithm.{answered, completed, storedBy, barrierReceived, takenIn, recordReceived}
+use Rattle.step.specs.Algorithm.{answered, completed, storedBy, barrierReceived, takenIn, recordReceived, sealed}
 use Rattle.step.specs.Step.{withCargo, withTaken, delivered, isNoSource, offsetOf, sourceRead, barrierSent, begun, cutOff, stepped}
 use Rattle.step.proofs.Fitting.{cond-has}
 
 -- the flags after a step of 0 to 63
 pub record Flags (run : Run) (s : Stepped) : Type 0 where
   pub complete : s .run .complete ≡ run .complete || eqb (s .answer) 20
-  pub under-way : s .run .«under_way» ≡ run .«under_way» && not (eqb (s .answer) 20)
+  pub under-way : s .run .«under_way» ≡ cond (eqb (s .answer) 20) 0 (run .«under_way»)
 
-or-false : (b : Bool) → b ≡ b || false
+pub or-false : (b : Bool) → b ≡ b || false
 or-false true = refl
 or-false false = refl
 
-or-true : (b : Bool) → true ≡ b || true
+pub or-true : (b : Bool) → true ≡ b || true
 or-true true = refl
 or-true false = refl
-
-and-true : (b : Bool) → b ≡ b && true
-and-true true = refl
-and-true false = refl
-
-and-false : (b : Bool) → false ≡ b && false
-and-false true = refl
-and-false false = refl
 
 module _ (run : Run) where
   -- a run with the flags of `run`, answered with another number
@@ -51,7 +43,7 @@ module _ (run : Run) where
       → Flags run (answered a next)
   same-flags next a p q ne = record {
     complete = p ∙ or-false (run .complete) ∙ ap (λ b. run .complete || b) (sym (ne-eqb a 20 ne));
-    under-way = q ∙ and-true (run .«under_way») ∙ ap (λ b. run .«under_way» && not b) (sym (ne-eqb a 20 ne));
+    under-way = q ∙ ap (λ b. cond b 0 (run .«under_way»)) (sym (ne-eqb a 20 ne));
   }
 
   pub refused-flags : (a : ℕ) → (a ≡ 20 → ⊥) → Flags run (answered a run)
@@ -61,8 +53,8 @@ module _ (run : Run) where
       → Flags run (completed job next)
   unfolding completed
   completed-flags job next p q =
-      cond-has (Flags run) (next .«under_way» && allStored job (next .stored))
-      (λ _. record { complete = or-true (run .complete); under-way = and-false (run .«under_way») })
+      cond-has (Flags run) (ltb 0 (next .«under_way») && allStored job (next .stored)) {x = answered 20 (sealed next)}
+      (λ _. record { complete = or-true (run .complete); under-way = refl })
       (λ _. same-flags next 0 p q (λ z. omega (arith, z)))
 
   cargo-flags : (job : Job) (c : ℕ) (cargo : Cargo) (rest : Channel) → Flags run (withCargo job run c cargo rest)
@@ -100,7 +92,7 @@ module _ (run : Run) where
       (λ _. same-flags _ 0 refl refl (λ z. omega (arith, z))))))
       (λ _. cond-has (Flags run) (ltb n 64)
       (λ _. cond-has (Flags run) (isNoSource job (n - 48)) (λ _. refused-flags 11 (λ z. omega (arith, z)))
-      (λ _. cond-has (Flags run) (not (flagAt (run .waiting) (n - 48))) (λ _. refused-flags 13 (λ z. omega (arith, z)))
+      (λ _. cond-has (Flags run) (eqb (countAt (run .waiting) (n - 48)) 0) (λ _. refused-flags 13 (λ z. omega (arith, z)))
       (λ _. cond-has (Flags run) (someFull job (run .channels) (n - 48)) (λ _. refused-flags 14 (λ z. omega (arith, z)))
       (λ _. completed-flags job _ refl refl))))
       (λ h. absurd (omega (arith, ltb-false n 64 h)))))
@@ -116,7 +108,7 @@ module _ (run : Run) where
       (λ _. cond-has Late (ltb n 48) (λ e. absurd (omega (arith, ltb-true n 48 e)))
       (λ _. cond-has Late (ltb n 64) (λ e. absurd (omega (arith, ltb-true n 64 e)))
       (λ _. cond-has Late (eqb n 64)
-      (λ _. cond-has Late (run .«under_way») (λ _. (refl, λ z. omega (arith, z))) (λ _. (refl, λ z. omega (arith, z))))
+      (λ _. cond-has Late (leb 1 (run .«under_way»)) (λ _. (refl, λ z. omega (arith, z))) (λ _. (refl, λ z. omega (arith, z))))
       (λ _. cond-has Late (eqb n 65) (λ _. (refl, λ z. omega (arith, z))) (λ _. (refl, λ z. omega (arith, z)))))))
 
   -- whatever the step, a snapshot is complete after it where one was before or it answers 20

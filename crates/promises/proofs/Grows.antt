@@ -2,7 +2,7 @@
 -- and a run after steps is read as the run of `laws` after the same steps (`exec-at`); whatever is counted over steps is counted there
 -- (`counts-at`).
 use mathlib.Core.Path.{_≡_, refl, sym, ap, ap₂, subst, _∙_}
-use mathlib.Core.Bool.{Bool, false, cond, false≢true}
+use mathlib.Core.Bool.{Bool, false, cond}
 use mathlib.Core.List.{List, [], _∷_}
 use Prim.Native.Nat.{ℕ, _+_}
 use native.Mathlib.Omega.{arith}
@@ -10,7 +10,6 @@ use lib.Dec.{eqb}
 use lib.ListN.{length, getD, replicate}
 use Rattle.laws.specs.Run.{Run as LawRun, Job as LawJob, freshS}
 use Rattle.laws.specs.Totals.{totMon}
-use Rattle.laws.specs.Base.{outOf}
 use Rattle.laws.specs.Step.{Out, done, ended, refused, after, ifDone, stepF, exec}
 use Rattle.tally.specs.declared.Record.{Record}
 use Rattle.tally.specs.Totals.{noTotals}
@@ -36,9 +35,9 @@ use Rattle.station.specs.Entries.{stepOn, stepsOn, drainOn}
 use Rattle.station.proofs.Admission.{admitted-fits, step-admitted, steps-admitted, drain-admitted}
 use Rattle.promises.specs.Grown.{afterSteps, grown, overSteps}
 use Rattle.promises.proofs.InOrder.{steppedIn, listedIn, counts-all, in-order, done-in-order}
-use Rattle.promises.proofs.Reading.{readJob, readOut}
-use Rattle.promises.proofs.Along.{same-at, empty-at, at, fresh-at, Along, along-fresh, along-step, out-is, goes, said}
-use Rattle.promises.proofs.Noted.{wasDone, wasEnded}
+use Rattle.promises.proofs.Reading.{at, readJob, readOut}
+use Rattle.promises.proofs.Asked.{same-at}
+use Rattle.promises.proofs.Along.{empty-at, fresh-at, Along, along-fresh, along-step, out-is, goes, said, wasDone, wasEnded}
 
 -- ---- a fresh run fits any job
 pub zeros-fit : (job : Job) (t : ℕ) → TotalsFit job t noTotals
@@ -52,11 +51,13 @@ fresh-fits job = record {
     live = same-at 16 t noTotals;
     half = same-at 16 t noTotals;
     last = same-at 16 t noTotals;
-    stored = same-at 16 t false;
-    waiting = same-at 16 t false;
+    stored = same-at 16 t 0;
+    waiting = same-at 16 t 0;
   };
-  waits = λ t l e. absurd (false≢true (sym (same-at 16 t false) ∙ e));
+  waits = λ t l e. absurd (omega (arith, same-at {A = ℕ} 16 t 0));
   totals = λ t l. record { live = zero-at t; half = zero-at t; last = zero-at t };
+  few = omega arith;
+  counts = λ t l. (omega (arith, same-at {A = ℕ} 16 t 0), omega (arith, same-at {A = ℕ} 16 t 0));
 }
   where
     zero-at : (t : ℕ) → TotalsFit job t (getD (replicate 16 noTotals) t noTotals)
@@ -84,7 +85,7 @@ module _ (J : Columns) (ok : jobAnswer J ≡ 0) where
   lawJob = readJob (jobOf J) (J .cylinders) (J .values) theJob
 
   abbrev pub atRun : Run → LawRun Record (totMon .Car)
-  atRun run = at (jobOf J) (J .cylinders) (J .values) theJob run
+  atRun run = at (jobOf J) run
 
   abbrev pub Goes : Run → Type 0
   Goes run = Along (jobOf J) (J .cylinders) (J .values) theJob run
@@ -105,7 +106,7 @@ module _ (J : Columns) (ok : jobAnswer J ≡ 0) where
   fresh-law = fresh-at (jobOf J) (J .cylinders) (J .values) theJob
 
   module _ (run : Run) (A : Goes run) (k : ℕ) where
-    pub out-at : stepF lawJob (atRun run) k ≡ outOf lawJob (readOut (jobOf J) (steppedIn J run k))
+    pub out-at : stepF lawJob (atRun run) k ≡ readOut (jobOf J) (steppedIn J run k)
     out-at = out-is (jobOf J) (J .cylinders) (J .values) theJob records-fine run A k
 
     pub went : after (atRun run) (stepF lawJob (atRun run) k) ≡ atRun (steppedIn J run k .run)

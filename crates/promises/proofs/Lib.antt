@@ -1,7 +1,7 @@
 -- The proofs of the promises.
 --   the product's run read as a run of `laws`
 --     Reading     the product's job and run, read as a job and a run of `laws`
---     Held, Sizes, Asked, Moved, Deliver, Sourced   the parts of a step, read
+--     Held, Sizes, Asked, Moved   the parts of a step, read
 --     Bridge      the product's step, read, is the step of `laws` (`step-read`)
 --     Along       so a run goes the way of the run that it is read as (`goes`), from a fresh one on
 --     Grows       calls on grown runs are admitted, and what is counted is counted in `laws` (`counts-at`)
@@ -10,7 +10,7 @@
 --     Emptied     the drain's definition by itself (`by-turns`)
 --     Twins       the drain is the drain of `laws` (`twins`)
 --   the statements
---     Noted, Flags, Snapped   2: the onlooker's notes, what a 20 says, snapshots
+--     Flags, Snapped   2: what a 20 says; snapshots, by the onlooker's notes
 --     Finished    3: a drain ends
 --     Formula     4: the step formula
 --     Sent        5: conservation
@@ -28,8 +28,6 @@ pub mod Held
 pub mod Sizes
 pub mod Asked
 pub mod Moved
-pub mod Deliver
-pub mod Sourced
 pub mod Bridge
 pub mod Along
 pub mod Grows
@@ -37,7 +35,6 @@ pub mod Evaluated
 pub mod Counted
 pub mod Emptied
 pub mod Twins
-pub mod Noted
 pub mod Flags
 pub mod Snapped
 pub mod Finished

@@ -3,18 +3,18 @@
 use mathlib.Core.Path.{_≡_, refl, sym, ap, _∙_}
 use mathlib.Core.Bool.{Bool, false, cond, _&&_, false≢true}
 use mathlib.Core.List.{List, [], _∷_}
-use Prim.Native.Nat.{ℕ, _<_, _≤_}
+use Prim.Native.Nat.{ℕ, _+_, _<_, _≤_}
 use native.Mathlib.Omega.{arith}
 use borrow.Author.Tests.{lt-ltb, le-ltb}
 use lib.Dec.{eqb, ltb}
 use lib.IntN.{ℤ, natAbs}
 use lib.ListN.{length}
 use Rattle.laws.specs.Received.{Graph}
+use Rattle.laws.specs.Below.{bit}
 use Rattle.laws.specs.Acyclic.{Ranked}
 use Rattle.laws.specs.Totals.{totMon, one-total}
 use Rattle.laws.specs.Items.{Item, barrier, rec}
-use Rattle.laws.specs.Run.{Job as LawJob}
-use Rattle.laws.specs.One.{OneRun}
+use Rattle.laws.specs.Run.{Job as LawJob, Run as LawRun}
 use Rattle.laws.specs.Step.{Out, done, ended, refused}
 use Rattle.laws.proofs.Value.{measured}
 use Rattle.tally.specs.declared.Record.{Record}
@@ -30,7 +30,7 @@ use Rattle.job.specs.Graph.{overChannel}
 use Rattle.job.specs.Fits.{JobFits}
 use Rattle.direct.specs.Direct.{recordsFrom}
 use Rattle.run.specs.declared.Run.{Run}
-use Rattle.run.specs.Fit.{channelAt, totalsAt, flagAt}
+use Rattle.run.specs.Fit.{channelAt, totalsAt, flagAt, countAt}
 use Rattle.step.specs.declared.Stepped.{Stepped}
 use Rattle.step.specs.Step.{lastOrNone}
 use Rattle.step.specs.Handlers.{Sized as SizedRun}
@@ -52,42 +52,65 @@ sourceOf job t = ltb t (job .tasks) && isSource job t
 abbrev pub offsetIn : Job → List Totals → ℕ → ℕ
 offsetIn job l t = cond (sourceOf job t) (totalsAt l t .count) 0
 
--- with what channels hold, live totals, offsets and marks given: all that a record or a barrier that only marks changes
-abbrev pub readWith : Job → Run → (ℕ → List (Item Record)) → (ℕ → totMon .Car) → (ℕ → ℕ) → (ℕ → Bool) → OneRun Record (totMon .Car)
-readWith job run chan live off mark = record {
+-- with no log, and nothing in front of a channel
+abbrev pub lawRun : (ℕ → List (Item Record)) → (ℕ → totMon .Car) → (ℕ → ℕ) → (ℕ → ℕ) → (ℕ → ℕ) → (ℕ → ℕ) → (ℕ → ℕ → totMon .Car)
+    → (ℕ → ℕ → ℕ) → ℕ → (ℕ → totMon .Car) → (ℕ → ℕ) → LawRun Record (totMon .Car)
+lawRun chan live off gone wait stored half halfOff going last lastOff = record {
   chan = chan;
   live = live;
   off = off;
-  mark = mark;
-  wait = flagAt (run .waiting);
-  stored = flagAt (run .stored);
-  half = λ v. encode (totalsAt (run .half) v);
-  halfOff = offsetIn job (run .half);
-  going = run .«under_way»;
-  last = λ v. encode (totalsAt (lastOrNone run) v);
-  lastOff = offsetIn job (lastOrNone run);
+  gone = gone;
+  wait = wait;
+  stored = stored;
+  half = half;
+  halfOff = halfOff;
+  log = λ i c. [];
+  front = λ c. 0;
+  going = going;
+  last = last;
+  lastOff = lastOff;
+  lastLog = λ c. [];
 }
 
-abbrev pub readRun : Job → Run → OneRun Record (totMon .Car)
-readRun job run =
-    readWith job run (λ c. itemsOf (held (channelAt run c))) (λ v. encode (totalsAt (run .live) v)) (offsetIn job (run .live))
-    (flagAt (run .marked))
+-- the end of a channel, which for a channel that the job lacks is no task
+abbrev pub endOf : Job → (ℕ → ℕ) → ℕ → ℕ
+endOf job end c = cond (ltb c (job .channels)) (end c) (job .tasks)
+
+abbrev pub toAt : Job → ℕ → ℕ
+toAt job c = endOf job (toOf job) c
+
+abbrev pub goneAt : Job → List ℕ → List Bool → ℕ → ℕ
+goneAt job stored marked c = countAt stored (toAt job c) + bit (flagAt marked c)
+
+abbrev pub livesOf : List Totals → ℕ → totMon .Car
+livesOf l v = encode (totalsAt l v)
+
+abbrev pub halfAt : List Totals → ℕ → ℕ → totMon .Car
+halfAt l i v = cond (eqb i 0) (encode (totalsAt l v)) (totMon .unit)
+
+abbrev pub halfOffAt : Job → List Totals → ℕ → ℕ → ℕ
+halfOffAt job l i v = cond (eqb i 0) (offsetIn job l v) 0
+
+-- THE RUN OF `laws`; with other numbers of barriers taken and waiting than the run itself has
+abbrev pub atWith : Job → (ℕ → ℕ) → (ℕ → ℕ) → Run → LawRun Record (totMon .Car)
+atWith job gone wait run =
+    lawRun (λ c. itemsOf (held (channelAt run c))) (livesOf (run .live)) (offsetIn job (run .live)) gone wait (countAt (run .stored))
+    (halfAt (run .half)) (halfOffAt job (run .half)) (run .«under_way») (livesOf (lastOrNone run)) (offsetIn job (lastOrNone run))
+
+abbrev pub at : Job → Run → LawRun Record (totMon .Car)
+at job run = atWith job (goneAt job (run .stored) (run .marked)) (countAt (run .waiting)) run
 
 -- arrays of the sizes that the run's type gives them
 abbrev pub Sized : Run → Type 0
 Sized run = SizedRun run
 
 -- a step's outcome
-abbrev pub readOut : Job → Stepped → Out (OneRun Record (totMon .Car))
+abbrev pub readOut : Job → Stepped → Out (LawRun Record (totMon .Car))
 readOut job s =
-    cond (eqb (s .answer) 0) (done (readRun job (s .run)))
-    (cond (eqb (s .answer) 20) (ended (readRun job (s .run))) (refused (s .answer)))
+    cond (eqb (s .answer) 0) (done (at job (s .run)))
+    (cond (eqb (s .answer) 20) (ended (at job (s .run))) (refused (s .answer)))
 
 -- ---- a job
--- the end of a channel, which for a channel that the job lacks is no task
-abbrev pub endOf : Job → (ℕ → ℕ) → ℕ → ℕ
-endOf job end c = cond (ltb c (job .channels)) (end c) (job .tasks)
-
 abbrev pub readGraph : Job → Graph Record
 readGraph job = record {
   n = job .tasks;
@@ -120,17 +143,17 @@ module _ (job : Job) (cylinders values : List ℤ) (J : JobFits job (length cyli
   pub no-part : (t : ℕ) → sourceOf job t ≡ false → partOf job cylinders values t ≡ []
   no-part t e = ap (λ b. cond b (recordsFrom cylinders values (natAbs (aOf job t)) (natAbs (bOf job t))) []) e
 
-  pub to-ok : (c : ℕ) → c < job .channels → endOf job (toOf job) c < job .tasks
+  pub to-ok : (c : ℕ) → c < job .channels → toAt job c < job .tasks
   to-ok c l = omega (arith, end-is job (toOf job) c l, J .sends .sized .to-task c l)
 
   pub from-ok : (c : ℕ) → c < job .channels → endOf job (fromOf job) c < job .tasks
   from-ok c l = omega (arith, end-is job (fromOf job) c l, J .sends .sized .from-task c l)
 
-  pub no-in : (c : ℕ) → c < job .channels → sourceOf job (endOf job (toOf job) c) ≡ false
+  pub no-in : (c : ℕ) → c < job .channels → sourceOf job (toAt job c) ≡ false
   no-in c l = source-is job _ (to-ok c l) ∙ ap (isSource job) (end-is job (toOf job) c l) ∙ J .no-input c l
 
   pub some-in : (t : ℕ) → t < job .tasks → sourceOf job t ≡ false
-      → (c : ℕ) × (c < job .channels) × (endOf job (toOf job) c ≡ t) × (false ≡ false)
+      → (c : ℕ) × (c < job .channels) × (toAt job c ≡ t) × (false ≡ false)
   some-in t l e =
       let w = J .some-input t l (sym (source-is job t l) ∙ e) in
       (w .0, w .1, end-is job (toOf job) (w .0) (w .1) ∙ w .2, refl)

@@ -38,7 +38,7 @@ use Rattle.station.specs.Entries.{stepOn}
 use Rattle.promises.specs.Grown.{grown, asRecord, recordsOf, brought, broughtTo, sentOn, deliveredFrom, recordsIn}
 use Rattle.promises.specs.Promises.{Conserved}
 use Rattle.promises.proofs.Reading.{itemsOf, end-is, sourceOf}
-use Rattle.promises.proofs.Noted.{wasDone}
+use Rattle.promises.proofs.Along.{wasDone}
 use Rattle.promises.proofs.Grows.{theJob, lawJob, atRun, Goes, fresh-law, said-at, goes-fresh, exec-at, counts-at}
 
 -- ---- what a channel holds

@@ -12,10 +12,8 @@ use Rattle.laws.specs.Items.{Item, barrier, rec}
 use Rattle.laws.specs.Run.{Run as LawRun, Job as LawJob, blocked, markS, storeS}
 use Rattle.laws.specs.Moves.{whole}
 use Rattle.laws.specs.Step.{Out, done, ended, refused, roomB, markedB, logFull, endF, barF, headF, nextF, stepF}
-use Rattle.laws.specs.Base.{outOf}
 use Rattle.laws.proofs.Promise.{silent-17}
 use Rattle.job.specs.Columns.{Columns}
-use Rattle.job.specs.Jobs.{jobOf}
 use Rattle.job.specs.Rules.{jobAnswer}
 use Rattle.run.specs.declared.Run.{Run}
 use Rattle.run.specs.Runs.{freshRun}
@@ -24,7 +22,6 @@ use Rattle.step.proofs.Fitting.{cond-has}
 use Rattle.station.specs.Entries.{stepOn, drainOn}
 use Rattle.promises.specs.Grown.{afterSteps, grown, stepsDone}
 use Rattle.promises.specs.Promises.{DrainSteps, GrownRun, Silent}
-use Rattle.promises.proofs.Reading.{readRun}
 use Rattle.promises.proofs.InOrder.{steppedIn, after-append, over-append}
 use Rattle.promises.proofs.Grows.{lawJob, atRun, Goes, on-step, on-drain, out-at, goes-grown, steps-run, steps-done, steps-answer}
 use Rattle.promises.proofs.Finished.{Path, drain-path, two-answers, not-19}
@@ -96,11 +93,9 @@ module _ (J : Columns) (ok : jobAnswer J ≡ 0) where
       let s = steppedIn J run k in
       let q : s .answer ≡ a = ap (λ (s : Stepped). s .answer) (sym (on-step J ok run (A .fits) k)) ∙ e in
       out-at J ok run A k
-      ∙ ap (λ n. outOf (lawJob J ok) (cond (eqb n 0) (done (readRun (jobOf J) (s .run)))
-      (cond (eqb n 20) (ended (readRun (jobOf J) (s .run))) (refused n)))) q
-      ∙ ap (λ b. outOf (lawJob J ok) (cond b (done (readRun (jobOf J) (s .run)))
-      (cond (eqb a 20) (ended (readRun (jobOf J) (s .run))) (refused a)))) (ne-eqb a 0 n0)
-      ∙ ap (λ b. outOf (lawJob J ok) (cond b (ended (readRun (jobOf J) (s .run))) (refused a))) (ne-eqb a 20 n20)
+      ∙ ap (λ n. cond (eqb n 0) (done (atRun J ok (s .run))) (cond (eqb n 20) (ended (atRun J ok (s .run))) (refused n))) q
+      ∙ ap (λ b. cond b (done (atRun J ok (s .run))) (cond (eqb a 20) (ended (atRun J ok (s .run))) (refused a))) (ne-eqb a 0 n0)
+      ∙ ap (λ b. cond b (ended (atRun J ok (s .run))) (refused a)) (ne-eqb a 20 n20)
 
   -- 17 AND 19 ARE SILENT
   pub silent : (ks : List ℕ) → Silent J ks

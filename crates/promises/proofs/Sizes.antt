@@ -1,7 +1,7 @@
 -- A run keeps the sizes of its arrays: the fresh run has them (`fresh-sized`), and every step, done or refused, keeps them
 -- (`stepped-sized`).
 use mathlib.Core.Path.{_≡_, ap, _∙_}
-use mathlib.Core.Bool.{Bool, true, false, not, _&&_}
+use mathlib.Core.Bool.{Bool, true, false, _&&_}
 use mathlib.Core.List.{List}
 use Prim.Native.Nat.{ℕ, zero, suc, _-_, _<_}
 use native.Mathlib.Omega.{arith}
@@ -23,7 +23,7 @@ use Rattle.job.specs.Jobs.{bOf, toOf, isOutput}
 use Rattle.job.specs.Graph.{sentBy}
 use Rattle.run.specs.declared.Run.{Run}
 use Rattle.run.specs.Runs.{freshRun, noChannel, withChannels, withMarked, withWaiting}
-use Rattle.run.specs.Fit.{channelAt, totalsAt, flagAt}
+use Rattle.run.specs.Fit.{channelAt, totalsAt, flagAt, countAt}
 use Rattle.outputs.specs.Outputs.{someFull, allMarked, allStored, eachPlace, unmarked, sourcesWait, put, putSent, carried, putOn, putAll}
 use Rattle.outputs.proofs.Places.{length-places}
 use Rattle.step.specs.declared.Stepped.{Stepped}
@@ -98,6 +98,9 @@ sized w m wait live half stored last = record {
 zeros-long : length (replicate 16 noTotals) ≡ 16
 zeros-long = length-replicate 16 noTotals
 
+none-long : (n : ℕ) → length {A = ℕ} (replicate n 0) ≡ n
+none-long n = length-replicate {A = ℕ} n 0
+
 unset-long : (n : ℕ) → length (replicate n false) ≡ n
 unset-long n = length-replicate n false
 
@@ -112,24 +115,24 @@ module _ (run : Run) (S : Sized run) where
   pub with-marked : (l : List Bool) → length l ≡ 32 → Sized (withMarked l run)
   with-marked l e = sized wide e (S .waiting) (S .live) (S .half) (S .stored) (S .last)
 
-  pub with-waiting : (l : List Bool) → length l ≡ 16 → Sized (withWaiting l run)
+  pub with-waiting : (l : List ℕ) → length l ≡ 16 → Sized (withWaiting l run)
   with-waiting l e = sized wide (S .marked) e (S .live) (S .half) (S .stored) (S .last)
 
 pub fresh-sized : Sized freshRun
-fresh-sized = sized fresh-wide (unset-long 32) (unset-long 16) zeros-long zeros-long (unset-long 16) zeros-long
+fresh-sized = sized fresh-wide (unset-long 32) (none-long 16) zeros-long zeros-long (unset-long 16) zeros-long
 
 module _ (job : Job) where
   completed-sized : (run : Run) → Sized run → Sized (completed job run .run)
   unfolding completed
   completed-sized run S =
-      cond-has (λ (s : Stepped). Sized (s .run)) (run .«under_way» && allStored job (run .stored))
-      (λ _. sized (wide run S) (S .marked) (S .waiting) (S .live) zeros-long (unset-long 16) (S .half)) (λ _. S)
+      cond-has (λ (s : Stepped). Sized (s .run)) (ltb 0 (run .«under_way») && allStored job (run .stored))
+      (λ _. sized (wide run S) (S .marked) (S .waiting) (S .live) zeros-long (none-long 16) (S .half)) (λ _. S)
 
-  stored-sized : (run : Run) (t : ℕ) → Sized run → Sized (storedBy job run t)
+  pub stored-sized : (run : Run) (t : ℕ) → Sized run → Sized (storedBy job run t)
   unfolding storedBy
   stored-sized run t S =
       sized (put-all-wide job t Barrier (run .channels) (wide run S)) (S .marked) (S .waiting) (S .live)
-      (length-set (run .half) t _ ∙ S .half) (length-set (run .stored) t true ∙ S .stored) (S .last)
+      (length-set (run .half) t _ ∙ S .half) (length-set (run .stored) t _ ∙ S .stored) (S .last)
 
   taken-in-sized : (run : Run) (t : ℕ) (r : Record) → Sized run → Sized (takenIn job run t r)
   unfolding takenIn
@@ -183,22 +186,22 @@ module _ (job : Job) where
   unfolding barrierSent
   sent-sized run t S =
       cond-has (λ (s : Stepped). Sized (s .run)) (isNoSource job t) (λ _. S)
-      (λ _. cond-has (λ (s : Stepped). Sized (s .run)) (not (flagAt (run .waiting) t)) (λ _. S)
+      (λ _. cond-has (λ (s : Stepped). Sized (s .run)) (eqb (countAt (run .waiting) t) 0) (λ _. S)
       (λ _. cond-has (λ (s : Stepped). Sized (s .run)) (someFull job (run .channels) t) (λ _. S)
-      (λ _. completed-sized _ (stored-sized _ t (with-waiting run S _ (length-set (run .waiting) t false ∙ S .waiting))))))
+      (λ _. completed-sized _ (stored-sized _ t (with-waiting run S _ (length-set (run .waiting) t _ ∙ S .waiting))))))
 
   begun-sized : (run : Run) → Sized run → Sized (begun job run .run)
   unfolding begun sourcesWait
   begun-sized run S =
-      cond-has (λ (s : Stepped). Sized (s .run)) (run .«under_way») (λ _. S)
-      (λ _. sized (wide run S) (S .marked) (length-places false _ (run .waiting) (job .tasks) ∙ S .waiting) (S .live) zeros-long
-      (unset-long 16) (S .last))
+      cond-has (λ (s : Stepped). Sized (s .run)) (leb 1 (run .«under_way»)) (λ _. S)
+      (λ _. sized (wide run S) (S .marked) (length-places 0 _ (run .waiting) (job .tasks) ∙ S .waiting) (S .live) zeros-long
+      (none-long 16) (S .last))
 
 cut-sized : (run : Run) → Sized run → Sized (cutOff run)
 unfolding cutOff
 cut-sized run S =
-    sized fresh-wide (unset-long 32) (unset-long 16)
-    (cond-has (λ (l : List Totals). length l ≡ 16) (run .complete) (λ _. S .last) (λ _. zeros-long)) zeros-long (unset-long 16) (S .last)
+    sized fresh-wide (unset-long 32) (none-long 16)
+    (cond-has (λ (l : List Totals). length l ≡ 16) (run .complete) (λ _. S .last) (λ _. zeros-long)) zeros-long (none-long 16) (S .last)
 
 pub stepped-sized : (job : Job) (c v : List ℤ) (run : Run) (k : ℕ) → Sized run → Sized (stepped job c v run k .run)
 unfolding stepped

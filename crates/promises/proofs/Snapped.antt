@@ -1,14 +1,22 @@
 -- Statement 2: each complete snapshot is direct evaluation's at the offsets that the onlooker noted when its sources sent their barriers.
 use mathlib.Core.Path.{_≡_, refl, sym, ap, ap₂, subst, _∙_}
 use mathlib.Core.Bool.{Bool, true, false, cond, _&&_, _||_}
-use mathlib.Core.List.{List, [], _∷_}
-use Prim.Native.Nat.{ℕ, _+_, _<_, _≤_}
+use mathlib.Core.List.{List, [], _∷_, _++_, append-nil}
+use Prim.Native.Nat.{ℕ, _+_, _-_, _<_, _≤_}
 use native.Mathlib.Omega.{arith}
-use lib.Dec.{eqb}
+use borrow.Author.Tests.{ltb-true, ltb-false, eqb-true, eqb-false, eq-eqb, ne-eqb}
+use lib.Dec.{eqb, ltb}
 use lib.ListN.{length, length-replicate}
-use Rattle.laws.specs.Step.{stepF}
+use Rattle.laws.specs.Received.{keep}
+use Rattle.laws.specs.Totals.{totMon}
+use Rattle.laws.specs.Run.{Run as LawRun}
+use Rattle.laws.specs.Step.{Out, done, ended, refused, stepF}
+use Rattle.laws.specs.Onlooker.{firstOf, restOf, queued, note, notes, Agrees}
+use Rattle.laws.specs.Onlooker.{Notes as LawNotes}
 use Rattle.laws.proofs.Below.{tab-ext}
+use Rattle.laws.proofs.Offsets.{offsets-noted, start-agrees}
 use Rattle.laws.proofs.Views.{last-direct}
+use Rattle.tally.specs.declared.Record.{Record}
 use Rattle.tally.specs.declared.Totals.{Totals}
 use Rattle.tally.specs.Totals.{noTotals}
 use Rattle.job.specs.Columns.{Columns}
@@ -21,48 +29,79 @@ use Rattle.run.specs.Fit.{TotalsFit, totalsAt}
 use Rattle.step.specs.declared.Stepped.{Stepped}
 use Rattle.step.specs.Step.{offsetOf, lastOrNone}
 use Rattle.step.proofs.Fitting.{cond-has}
+use Rattle.lists.specs.Lists.{isDone}
 use Rattle.station.specs.Entries.{stepOn}
-use Rattle.promises.specs.Grown.{afterSteps, grown, Notes, sentNow, noted, notesOf, notesAt, countsFor}
+use Rattle.promises.specs.Grown.{afterSteps, grown, Notes, noted, notesOf, noNotes, notesAt, countsFor}
 use Rattle.promises.specs.Promises.{Snapshots}
-use Rattle.promises.proofs.Reading.{source-is}
-use Rattle.promises.proofs.Along.{same-at}
-use Rattle.promises.proofs.Grows.{zeros-fit, lawJob, atRun, Goes, on-step, fresh-law, goes-step, after-at, said-at, goes-fresh}
-use Rattle.promises.proofs.Grows.{goes-grown}
+use Rattle.promises.proofs.Reading.{sourceOf, source-is}
+use Rattle.promises.proofs.Asked.{same-at}
+use Rattle.promises.proofs.Along.{wasDone, wasEnded}
+use Rattle.promises.proofs.Grows.{zeros-fit, theJob, lawJob, atRun, Goes, on-step, fresh-law, goes-step, after-at, said-at}
+use Rattle.promises.proofs.Grows.{goes-fresh, goes-grown, exec-at}
 use Rattle.promises.proofs.Counted.{directed-is}
-use Rattle.promises.proofs.Noted.{Agree, sentAfter, agrees-step}
 use Rattle.promises.proofs.Flags.{step-complete}
 
+-- a step 48 + u, as `laws` asks for it
+is-send : (k u : ℕ) → u < 16 → eqb k (48 + u) ≡ cond (ltb k 48) false (cond (ltb k 64) (eqb u (k - 48)) false)
+is-send k u l = go (ltb k 48) refl (ltb k 64) refl (eqb u (k - 48)) refl
+  where
+    go : (x : Bool) → ltb k 48 ≡ x → (y : Bool) → ltb k 64 ≡ y → (z : Bool) → eqb u (k - 48) ≡ z
+        → eqb k (48 + u) ≡ cond x false (cond y z false)
+    go true p y q z r = ne-eqb k (48 + u) (λ e. omega (arith, ltb-true k 48 p))
+    go false p true q true r = eq-eqb k (48 + u) (omega (arith, ltb-false k 48 p, eqb-true u (k - 48) r))
+    go false p true q false r = ne-eqb k (48 + u) (λ e. eqb-false u (k - 48) r (omega arith))
+    go false p false q z r = ne-eqb k (48 + u) (λ e. omega (arith, ltb-false k 64 q))
+
 module _ (J : Columns) (ok : jobAnswer J ≡ 0) where
-  -- the offset of a source is its live count
-  offset-at : (run : Run) (t : ℕ) → t < jobOf J .tasks → isSource (jobOf J) t ≡ true → (atRun J ok run) .off t ≡ offsetOf run t
-  offset-at run t l e = ap (λ b. cond b (offsetOf run t) 0) (source-is (jobOf J) t l ∙ e)
+  -- what is read of a source is its own
+  of-source : (x t : ℕ) → t < jobOf J .tasks → isSource (jobOf J) t ≡ true → cond (sourceOf (jobOf J) t) x 0 ≡ x
+  of-source x t l e = ap (λ b. cond b x 0) (source-is (jobOf J) t l ∙ e)
+
+  -- notes that say the same of the sources
+  abbrev SameNotes : Notes → LawNotes → Type 0
+  SameNotes h h′ =
+      (u : ℕ) → u < jobOf J .tasks → isSource (jobOf J) u ≡ true → (h .sent u ≡ h′ .sent u) × (h .complete u ≡ h′ .complete u)
 
   module _ (run : Run) (A : Goes J ok run) (k : ℕ) where
-    sent-same : (sent : ℕ → ℕ) (t : ℕ) → t < jobOf J .tasks → isSource (jobOf J) t ≡ true
-        → sentAfter (lawJob J ok) refl (atRun J ok run) k (stepF (lawJob J ok) (atRun J ok run) k) sent t
-        ≡ sentNow k (stepOn J run k .answer) (offsetOf (stepOn J run k .run)) sent t
-    sent-same sent t l e =
-        ap₂ (λ b x. cond (b && eqb k (48 + t)) x (sent t)) (said-at J ok run A k .0)
-        (ap (λ s. s .off t) (after-at J ok run A k) ∙ offset-at (stepOn J run k .run) t l e)
+    step-notes : (h : Notes) (h′ : LawNotes) → SameNotes h h′
+        → SameNotes (noted k (stepOn J run k .answer) (offsetOf run) h)
+        (note (lawJob J ok) (atRun J ok run) k (stepF (lawJob J ok) (atRun J ok run) k) h′)
+    step-notes h h′ same u l e =
+        go (stepF (lawJob J ok) (atRun J ok run) k) (sym (said-at J ok run A k .0)) (sym (said-at J ok run A k .1))
+      where
+        few : u < 16
+        few = omega (arith, theJob J ok .sends .sized .few-tasks)
 
-    step-agrees : (h : Notes) → Agree (lawJob J ok) refl (atRun J ok run) (h .sent) (h .complete)
-        → Agree (lawJob J ok) refl (atRun J ok (stepOn J run k .run))
-        (noted k (stepOn J run k .answer) (offsetOf (stepOn J run k .run)) h .sent)
-        (noted k (stepOn J run k .answer) (offsetOf (stepOn J run k .run)) h .complete)
-    step-agrees h a =
-        let b = agrees-step (lawJob J ok) refl (atRun J ok run) (A .good) (h .sent) (h .complete) a k in
-        let q = after-at J ok run A k in
-        record {
-          half = λ t l e m.
-              ap (λ s. s .halfOff 0 t) (sym q)
-              ∙ b .half t l e (subst (λ s. 0 < s .stored t) (sym q) m)
-              ∙ sent-same (h .sent) t l (sym (source-is (jobOf J) t l) ∙ e);
-          last = λ t l e.
-              ap (λ s. s .lastOff t) (sym q)
-              ∙ b .last t l e
-              ∙ ap₂ (λ b x. cond b x (h .complete t)) (said-at J ok run A k .1)
-              (sent-same (h .sent) t l (sym (source-is (jobOf J) t l) ∙ e));
-        }
+        queue : Bool → List ℕ
+        queue d = h .sent u ++ keep (d && eqb k (48 + u)) (offsetOf run u ∷ [])
+
+        queue-is : queue true ≡ queued (lawJob J ok) (atRun J ok run) k (h′ .sent) u
+        queue-is =
+            ap₂ (λ q x. q ++ keep (eqb k (48 + u)) (x ∷ [])) (same u l e .0) (sym (of-source (offsetOf run u) u l e))
+            ∙ ap (λ b. h′ .sent u ++ keep b (atRun J ok run .off u ∷ [])) (is-send k u few)
+
+        answer : ℕ
+        answer = stepOn J run k .answer
+
+        sent : Bool → Bool → List ℕ
+        sent d n = cond n (restOf (queue d)) (cond (d && eqb k 65) [] (queue d))
+
+        go : (o : Out (LawRun Record (totMon .Car))) → isDone answer ≡ wasDone o → eqb answer 20 ≡ wasEnded o
+            → (sent (isDone answer) (eqb answer 20) ≡ note (lawJob J ok) (atRun J ok run) k o h′ .sent u)
+            × (cond (eqb answer 20) (firstOf (queue (isDone answer))) (h .complete u)
+            ≡ note (lawJob J ok) (atRun J ok run) k o h′ .complete u)
+        go (done s) d n = (
+          ap₂ sent d n ∙ ap (cond (eqb k 65) []) queue-is,
+          ap (λ b. cond b (firstOf (queue (isDone answer))) (h .complete u)) n ∙ same u l e .1,
+        )
+        go (ended s) d n = (
+          ap₂ sent d n ∙ ap restOf queue-is,
+          ap₂ (λ b c. cond b (firstOf (queue c)) (h .complete u)) n d ∙ ap firstOf queue-is,
+        )
+        go (refused a) d n = (
+          ap₂ sent d n ∙ append-nil (h .sent u) ∙ same u l e .0,
+          ap (λ b. cond b (firstOf (queue (isDone answer))) (h .complete u)) n ∙ same u l e .1,
+        )
 
     step-seen : stepOn J run k .run .complete ≡ run .complete || eqb (stepOn J run k .answer) 20
     step-seen =
@@ -70,29 +109,25 @@ module _ (J : Columns) (ok : jobAnswer J ≡ 0) where
         (step-complete run (jobOf J) (J .cylinders) (J .values) k)
 
   -- ---- over a list of steps
-  notes-agree : (run : Run) (ks : List ℕ) (h : Notes) → Goes J ok run
-      → Agree (lawJob J ok) refl (atRun J ok run) (h .sent) (h .complete)
-      → Agree (lawJob J ok) refl (atRun J ok (afterSteps J run ks)) (notesOf J run ks h .sent) (notesOf J run ks h .complete)
-  unfolding afterSteps notesOf
-  notes-agree run [] h A a = a
-  notes-agree run (k ∷ ks) h A a =
-      notes-agree (stepOn J run k .run) ks (noted k (stepOn J run k .answer) (offsetOf (stepOn J run k .run)) h)
-      (goes-step J ok run A k) (step-agrees run A k h a)
+  all-notes : (run : Run) (ks : List ℕ) (h : Notes) (h′ : LawNotes) → Goes J ok run → SameNotes h h′
+      → SameNotes (notesOf J run ks h) (notes (lawJob J ok) ks (atRun J ok run) h′)
+  unfolding notesOf
+  all-notes run [] h h′ A same = same
+  all-notes run (k ∷ ks) h h′ A same =
+      let g = noted k (stepOn J run k .answer) (offsetOf run) h in
+      let g′ = note (lawJob J ok) (atRun J ok run) k (stepF (lawJob J ok) (atRun J ok run) k) h′ in
+      subst (λ s. SameNotes (notesOf J (stepOn J run k .run) ks g) (notes (lawJob J ok) ks s g′)) (sym (after-at J ok run A k))
+      (all-notes (stepOn J run k .run) ks g g′ (goes-step J ok run A k) (step-notes run A k h h′ same))
 
   notes-seen : (run : Run) (ks : List ℕ) (h : Notes) → Goes J ok run → run .complete ≡ h .any
       → afterSteps J run ks .complete ≡ notesOf J run ks h .any
   unfolding afterSteps notesOf
   notes-seen run [] h A e = e
   notes-seen run (k ∷ ks) h A e =
-      notes-seen (stepOn J run k .run) ks (noted k (stepOn J run k .answer) (offsetOf (stepOn J run k .run)) h) (goes-step J ok run A k)
+      notes-seen (stepOn J run k .run) ks (noted k (stepOn J run k .answer) (offsetOf run) h) (goes-step J ok run A k)
       (step-seen run A k ∙ ap (λ b. b || eqb (stepOn J run k .answer) 20) e)
 
   -- ---- grown runs
-  fresh-agrees : Agree (lawJob J ok) refl (atRun J ok freshRun) (λ t. 0) (λ t. 0)
-  fresh-agrees =
-      subst (λ s. Agree (lawJob J ok) refl s (λ t. 0) (λ t. 0)) (sym (fresh-law J ok))
-      (record { half = λ t l e m. refl; last = λ t l e. refl })
-
   module _ (ks : List ℕ) where
     -- the totals that a cut restores fit
     last-fits : (u : ℕ) → u < jobOf J .tasks → TotalsFit (jobOf J) u (totalsAt (lastOrNone (grown J ks)) u)
@@ -114,15 +149,19 @@ module _ (J : Columns) (ok : jobAnswer J ≡ 0) where
     offsets : (s : ℕ) → s < jobOf J .tasks → isSource (jobOf J) s ≡ true
         → totalsAt (lastOrNone (grown J ks)) s .count ≡ notesAt J ks .complete s
     offsets s l e =
-        let src = source-is (jobOf J) s l ∙ e in
-        sym (ap (λ b. cond b (totalsAt (lastOrNone (grown J ks)) s .count) 0) src)
-        ∙ notes-agree freshRun ks (record { sent = λ t. 0; complete = λ t. 0; any = false }) (goes-fresh J ok) fresh-agrees .last s l src
+        let none : LawNotes = record { sent = λ t. []; complete = λ t. 0 } in
+        let agree = offsets-noted (lawJob J ok) (theJob J ok .some-task) ks (atRun J ok freshRun) none (goes-fresh J ok .good)
+        (subst (λ s. Agrees (lawJob J ok) s none) (sym (fresh-law J ok)) (start-agrees (lawJob J ok) (λ t. totMon .unit) (λ t. 0))) in
+        sym (of-source (totalsAt (lastOrNone (grown J ks)) s .count) s l e)
+        ∙ ap (λ r. r .lastOff s) (sym (exec-at J ok freshRun ks (goes-fresh J ok)))
+        ∙ agree .last-noted s l (source-is (jobOf J) s l ∙ e)
+        ∙ sym (all-notes freshRun ks noNotes none (goes-fresh J ok) (λ u l e. (refl, refl)) s l e .1)
 
     totals : directedOf J (countsFor J (notesAt J ks .complete)) ≡ record { totals = lastOrNone (grown J ks); answer = 0 }
     totals =
         let offs = atRun J ok (grown J ks) .lastOff in
         let at : (s : ℕ) → s < jobOf J .tasks → isSource (jobOf J) s ≡ true → offs s ≡ totalsAt (lastOrNone (grown J ks)) s .count =
-        λ s l e. ap (λ b. cond b (totalsAt (lastOrNone (grown J ks)) s .count) 0) (source-is (jobOf J) s l ∙ e) in
+        λ s l e. of-source (totalsAt (lastOrNone (grown J ks)) s .count) s l e in
         ap (directedOf J) (tab-ext (jobOf J .tasks) _ _ (λ t l. same t l (isSource (jobOf J) t) refl))
         ∙ directed-is J ok offs (λ t l e. omega (arith, at t l e, last-fits t l .source e)) (lastOrNone (grown J ks)) last-long
         (λ u l. last-direct (lawJob J ok) (atRun J ok (grown J ks)) (goes-grown J ok ks .good .inv) (λ c l. refl) u l)
@@ -131,13 +170,13 @@ module _ (J : Columns) (ok : jobAnswer J ≡ 0) where
         same : (t : ℕ) → t < jobOf J .tasks → (b : Bool) → isSource (jobOf J) t ≡ b
             → cond b (notesAt J ks .complete t) 0 ≡ cond b (atRun J ok (grown J ks) .lastOff t) 0
         same t l true e =
-            sym (offsets t l e) ∙ sym (ap (λ b. cond b (totalsAt (lastOrNone (grown J ks)) t .count) 0) (source-is (jobOf J) t l ∙ e))
+            sym (offsets t l e) ∙ sym (of-source (totalsAt (lastOrNone (grown J ks)) t .count) t l e)
         same t l false e = refl
 
   -- THE SNAPSHOTS
   pub snapshots : (ks : List ℕ) → Snapshots J ks
   snapshots ks = record {
-    seen = notes-seen freshRun ks (record { sent = λ t. 0; complete = λ t. 0; any = false }) (goes-fresh J ok) refl;
+    seen = notes-seen freshRun ks noNotes (goes-fresh J ok) refl;
     offsets = offsets ks;
     totals = totals ks;
   }

@@ -5,17 +5,16 @@ use mathlib.Core.Bool.{Bool, true, false, cond, not, _&&_, _||_, true≢false, f
 use Prim.Native.Nat.{ℕ, zero, suc, _+_, _<_}
 use native.Mathlib.Numerals.{add-one}
 use native.Mathlib.Omega.{arith}
-use borrow.Author.Tests.{eq-eqb, ne-eqb, lt-ltb}
+use borrow.Author.Tests.{ltb-true, eq-eqb, ne-eqb, lt-ltb}
 use lib.Dec.{eqb, ltb}
 use lib.IntN.{natAbs}
 use lib.ListN.{length}
-use Rattle.laws.specs.Below.{bit, both, either, anyN}
+use Rattle.laws.specs.Below.{both, either, anyN}
 use Rattle.laws.specs.Run.{Run as LawRun}
 use Rattle.laws.specs.Totals.{totMon}
 use Rattle.laws.specs.Step.{Out, done, ended, refused, after, stepF}
 use Rattle.laws.specs.Drain.{orElse, goOn, drained, firstF, drainF}
 use Rattle.laws.specs.Drain.{Drained as LawDrained, someLeft as lawLeft}
-use Rattle.laws.proofs.Below.{flag-some}
 use Rattle.tally.specs.declared.Record.{Record}
 use Rattle.channel.specs.Channels.{held}
 use Rattle.job.specs.Columns.{Columns}
@@ -23,7 +22,7 @@ use Rattle.job.specs.Tests.{some}
 use Rattle.job.specs.Jobs.{jobOf, bOf, isSource}
 use Rattle.job.specs.Rules.{jobAnswer}
 use Rattle.run.specs.declared.Run.{Run}
-use Rattle.run.specs.Fit.{channelAt, flagAt}
+use Rattle.run.specs.Fit.{channelAt, countAt}
 use Rattle.step.specs.Step.{offsetOf}
 use Rattle.drain.specs.declared.Drained.{Drained}
 use Rattle.lists.specs.Lists.{isDone}
@@ -32,7 +31,7 @@ use Rattle.drain.specs.Drains.{ended as endedWith}
 use Rattle.promises.proofs.Reading.{itemsOf, partOf, source-is}
 use Rattle.promises.proofs.Held.{held-length}
 use Rattle.promises.proofs.Evaluated.{part-long}
-use Rattle.promises.proofs.Noted.{wasDone}
+use Rattle.promises.proofs.Along.{wasDone}
 use Rattle.promises.proofs.InOrder.{steppedIn}
 use Rattle.promises.proofs.Grows.{possibleIn, lowestIn, drainedIn, theJob, lawJob, atRun, Goes, went, goes-stepped}
 use Rattle.promises.proofs.Grows.{said-stepped}
@@ -95,24 +94,23 @@ module _ (J : Columns) (ok : jobAnswer J ≡ 0) where
 
     task-is : (t : ℕ) → t < jobOf J .tasks → taskLeft (jobOf J) run t ≡ either (unread t) (waits t)
     task-is t l =
-        rest (isSource (jobOf J) t) refl (flagAt (run .waiting) t) refl
-        ∙ sym (ap (λ b. either (both b (behind b)) (both b (ltb 0 (bit (flagAt (run .waiting) t))))) (source-is (jobOf J) t l))
+        rest (isSource (jobOf J) t) refl (ltb 0 (countAt (run .waiting) t)) refl
+        ∙ sym (ap (λ b. either (both b (behind b)) (both b (ltb 0 (countAt (run .waiting) t)))) (source-is (jobOf J) t l))
       where
         behind : Bool → Bool
         behind b = ltb (cond b (offsetOf run t) 0) (length (partOf (jobOf J) (J .cylinders) (J .values) t))
 
-        rest : (b : Bool) → isSource (jobOf J) t ≡ b → (x : Bool) → flagAt (run .waiting) t ≡ x
-            → (b && ltb (offsetOf run t) (natAbs (bOf (jobOf J) t)) || x) ≡ either (both b (behind b)) (both b (ltb 0 (bit x)))
+        rest : (b : Bool) → isSource (jobOf J) t ≡ b → (x : Bool) → ltb 0 (countAt (run .waiting) t) ≡ x
+            → (b && ltb (offsetOf run t) (natAbs (bOf (jobOf J) t)) || x) ≡ either (both b (behind b)) (both b x)
         rest true e x q =
             ap (λ n. ltb (offsetOf run t) n || x)
             (sym (part-long (jobOf J) (J .cylinders) (J .values) (theJob J ok) t l ∙ ap (λ b. cond b (natAbs (bOf (jobOf J) t)) 0) e))
             ∙ same (behind true) x
           where
-            same : (a x : Bool) → (a || x) ≡ either a (ltb 0 (bit x))
+            same : (a x : Bool) → (a || x) ≡ either a x
             same true x = refl
-            same false true = refl
-            same false false = refl
-        rest false e true q = absurd (false≢true (sym e ∙ A .fits .waits t l q))
+            same false x = refl
+        rest false e true q = absurd (false≢true (sym e ∙ A .fits .waits t l (ltb-true 0 (countAt (run .waiting) t) q)))
         rest false e false q = refl
 
     held-long : (c : ℕ) → c < jobOf J .channels → length (itemsOf (held (channelAt run c))) ≡ channelAt run c .count
@@ -131,8 +129,8 @@ module _ (J : Columns) (ok : jobAnswer J ≡ 0) where
     unfolding someLeft tasksLeft channelsLeft
     left-is =
         asked (some (taskLeft (jobOf J) run) (jobOf J .tasks)) (some (λ c. not (eqb (channelAt run c .count) 0)) (jobOf J .channels))
-        (run .«under_way»)
-        ∙ ap₂ (λ d x. either d x) (sym (flag-some (run .«under_way»)))
+        (ltb 0 (run .«under_way»))
+        ∙ ap (λ x. either (ltb 0 (run .«under_way»)) x)
         (ap₂ (λ c x. either c x)
         (some-any (λ c. not (eqb (channelAt run c .count) 0)) holds (jobOf J .channels) channel-is)
         (some-any (taskLeft (jobOf J) run) (λ t. either (unread t) (waits t)) (jobOf J .tasks) task-is

@@ -17,7 +17,7 @@ use Rattle.job.specs.Table.{station}
 use Rattle.direct.specs.Direct.{readBy, receivedBy}
 use Rattle.run.specs.Fit.{totalsAt, runFits, channelsFit, tasksFit, taskFits, limitOf, totalsFit, placeFits, channelFits}
 use Rattle.outputs.specs.Outputs.{someFull, allMarked, allStored, eachPlace, unmarked, sourcesWait, putOn, putAll}
-use Rattle.step.specs.Algorithm.{completed, storedBy, barrierReceived, takenIn, recordReceived}
+use Rattle.step.specs.Algorithm.{turnOf, completed, storedBy, barrierReceived, takenIn, recordReceived}
 use Rattle.step.specs.Step.{lastOrNone, withTaken, delivered, isNoSource, nextRecord, sourceRead, barrierSent, begun, cutOff, stepped}
 use Rattle.station.specs.Entries.{admittedOf, stepOn}
 use Rattle.promises.specs.Grown.{afterSteps, grown, notesOf, notesAt, overSteps, stepsDone, snapshotsBegun, recordsRead, recordsSent}
@@ -46,7 +46,7 @@ unfolding sentOn sentOver placeOf some every filled sweep sweeps jobOf jobAnswer
     fault1 fault2 fault3 fault4 fault5 fault6 badTask offTable badPart badRecord badRecords
     hasInput fault7 fault8 fault9 strike struckTasks worstAnew worstCounts readBy receivedBy
     runFits channelsFit tasksFit taskFits limitOf totalsFit placeFits channelFits
-    withItem withoutHead someFull allMarked allStored eachPlace unmarked sourcesWait putOn putAll
+    withItem withoutHead someFull allMarked allStored eachPlace unmarked sourcesWait turnOf putOn putAll
     completed storedBy barrierReceived takenIn recordReceived
     withTaken delivered isNoSource nextRecord sourceRead barrierSent begun cutOff stepped
     stepOn admittedOf afterSteps notesOf overSteps

@@ -1,10 +1,10 @@
 -- 7 and 8. DEMANDS 2 AND 1, over any columns and any run of its type: the answers of every call, and what a step does. The words of the
 -- step rules and of Algorithm 1 (`Refused`, `Received`, `Passed`, ..) stand in step/specs/Handlers.antt; `jobOf J` is the job by value.
 use mathlib.Core.Path.{_≡_}
-use mathlib.Core.Bool.{Bool, true, false, cond}
+use mathlib.Core.Bool.{true, false, cond}
 use mathlib.Core.List.{List, [], _∷_, _++_}
 use mathlib.Core.Logic.{_↔_}
-use Prim.Native.Nat.{ℕ, _+_, _<_, _≤_}
+use Prim.Native.Nat.{ℕ, _+_, _-_, _<_, _≤_}
 use lib.IntN.{natAbs}
 use lib.ListN.{length, set}
 use Rattle.tally.specs.declared.Record.{Record}
@@ -20,7 +20,7 @@ use Rattle.job.specs.Exact.{Exact}
 use Rattle.direct.specs.Direct.{fault35, directedOf, refusedWith}
 use Rattle.run.specs.declared.Run.{Run}
 use Rattle.run.specs.Runs.{freshRun, withWaiting, withLive, withoutHalf, withLast, withUnderWay}
-use Rattle.run.specs.Fit.{Fits, totalsAt, flagAt}
+use Rattle.run.specs.Fit.{Fits, totalsAt, countAt}
 use Rattle.step.specs.Algorithm.{answered}
 use Rattle.step.specs.Step.{offsetOf, nextRecord}
 use Rattle.step.specs.Handlers.{Head, Source, Open, Full, Completes, Refused, HeadTaken, Received, Marked, Passed, Sealed}
@@ -88,11 +88,12 @@ module _ (J : Columns) (run : Run) where
     pub read : (t : ℕ) → Source job t → offsetOf run t < natAbs (bOf job t) → (Full job run t → ⊥)
         → (stepOn J run (32 + t) .answer ≡ 0)
         × Received job run (stepOn J run (32 + t) .run) t (nextRecord job (J .cylinders) (J .values) run t)
-    pub send-barrier : (t : ℕ) → Source job t → flagAt (run .waiting) t ≡ true → (Full job run t → ⊥)
-        → (y : Run) × Passed job (withWaiting (set (run .waiting) t false) run) y t × Sealed job y (stepOn J run (48 + t))
-    pub begin : run .«under_way» ≡ false
-        → (w : List Bool) × (stepOn J run 64 ≡ answered 0 (withUnderWay true (withoutHalf (withWaiting w run))))
-        × ((t : ℕ) → Source job t → flagAt w t ≡ true)
+    pub send-barrier : (t : ℕ) → Source job t → 0 < countAt (run .waiting) t → (Full job run t → ⊥)
+        → (y : Run) × Passed job (withWaiting (set (run .waiting) t (countAt (run .waiting) t - 1)) run) y t
+        × Sealed job y (stepOn J run (48 + t))
+    pub begin : run .«under_way» ≡ 0
+        → (w : List ℕ) × (stepOn J run 64 ≡ answered 0 (withUnderWay 1 (withoutHalf (withWaiting w run))))
+        × ((t : ℕ) → Source job t → countAt w t ≡ 1)
     -- "Live totals become those of the last complete snapshot, or all zero if there is none"; it stays, and all else is as in a fresh run
     pub cut : stepOn J run 65
         ≡ answered 0 (withLast (run .last) (run .complete) (withLive (cond (run .complete) (run .last) (freshRun .live)) freshRun))

@@ -2,12 +2,13 @@
 -- without" (document 01). A host calls `step` again and again with the same columns; the onlooker stands beside him and sees the steps'
 -- numbers, their answers and the runs. Nothing here looks at how a step is done.
 use mathlib.Core.Bool.{Bool, false, cond, _&&_, _||_}
-use mathlib.Core.List.{List, [], _∷_}
+use mathlib.Core.List.{List, [], _∷_, _++_}
 use Prim.Native.Nat.{ℕ, _+_, _-_}
 use lib.Dec.{eqb, ltb}
 use lib.ListN.{length, take}
 use Rattle.laws.specs.Received.{keep, flat}
 use Rattle.laws.specs.Below.{bit, tab}
+use Rattle.laws.specs.Onlooker.{firstOf, restOf}
 use Rattle.laws.specs.Sums.{natMon, sumN}
 use Rattle.tally.specs.declared.Record.{Record}
 use Rattle.channel.specs.declared.Cargo.{Cargo}
@@ -34,32 +35,38 @@ afterSteps J run (k ∷ ks) = afterSteps J (stepOn J run k .run) ks
 abbrev pub grown : Columns → List ℕ → Run
 grown J ks = afterSteps J freshRun ks
 
--- ---- an onlooker who notes offsets. He sees of a step its number, its answer and the live counts after it
+-- ---- an onlooker who notes offsets, in a queue for each task. He sees of a step its number, its answer and the live counts of the run
+-- that it finds
 pub record Notes : Type 0 where
-  -- each task's count when its step 48 + t was last done
-  pub sent : ℕ → ℕ
-  -- what stood there at the last answer 20, and whether there was one
+  -- each task's counts at its steps 48 + t, the oldest first, as far as no answer 20 has taken them
+  pub sent : ℕ → List ℕ
+  -- what the last answer 20 took, and whether there was one
   pub complete : ℕ → ℕ
   pub any : Bool
 
--- a source's count is noted when its step 48 + s is done; at answer 20 these notes are those of the complete snapshot
-abbrev pub sentNow : ℕ → ℕ → (ℕ → ℕ) → (ℕ → ℕ) → ℕ → ℕ
-sentNow k answer counts sent t = cond (isDone answer && eqb k (48 + t)) (counts t) (sent t)
+-- a source's count is put behind when its step 48 + t is done
+abbrev pub queuedNow : ℕ → ℕ → (ℕ → ℕ) → (ℕ → List ℕ) → ℕ → List ℕ
+queuedNow k answer counts sent t = sent t ++ keep (isDone answer && eqb k (48 + t)) (counts t ∷ [])
 
+-- an answer 20 takes the first of every queue, and these are the complete snapshot's; a cut that is done empties the queues
 abbrev pub noted : ℕ → ℕ → (ℕ → ℕ) → Notes → Notes
 noted k answer counts h = record {
-  sent = sentNow k answer counts (h .sent);
-  complete = λ t. cond (eqb answer 20) (sentNow k answer counts (h .sent) t) (h .complete t);
+  sent = λ t.
+      cond (eqb answer 20) (restOf (queuedNow k answer counts (h .sent) t))
+      (cond (isDone answer && eqb k 65) [] (queuedNow k answer counts (h .sent) t));
+  complete = λ t. cond (eqb answer 20) (firstOf (queuedNow k answer counts (h .sent) t)) (h .complete t);
   any = h .any || eqb answer 20;
 }
 
 unfoldable pub notesOf : Columns → Run → List ℕ → Notes → Notes
 notesOf J run [] h = h
-notesOf J run (k ∷ ks) h =
-    notesOf J (stepOn J run k .run) ks (noted k (stepOn J run k .answer) (offsetOf (stepOn J run k .run)) h)
+notesOf J run (k ∷ ks) h = notesOf J (stepOn J run k .run) ks (noted k (stepOn J run k .answer) (offsetOf run) h)
+
+abbrev pub noNotes : Notes
+noNotes = record { sent = λ t. []; complete = λ t. 0; any = false }
 
 abbrev pub notesAt : Columns → List ℕ → Notes
-notesAt J ks = notesOf J freshRun ks (record { sent = λ t. 0; complete = λ t. 0; any = false })
+notesAt J ks = notesOf J freshRun ks noNotes
 
 -- one count for each task, as direct evaluation takes them: of the sources' counts; of their whole parts
 abbrev pub countsFor : Columns → (ℕ → ℕ) → List ℕ

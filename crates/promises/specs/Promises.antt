@@ -2,7 +2,7 @@
 -- columns of an accepted job, ks the numbers of the steps by which the run was grown: any numbers, refused ones, snapshots and cuts among
 -- them. Each statement is proved for all of them in proofs/Promised.antt, under the name that stands with it.
 use mathlib.Core.Path.{_≡_}
-use mathlib.Core.Bool.{true, false}
+use mathlib.Core.Bool.{true}
 use mathlib.Core.List.{List, [], _∷_, _++_}
 use mathlib.Core.Logic.{_⊎_}
 use Prim.Native.Nat.{ℕ, _+_, _*_, _<_, _≤_}
@@ -13,7 +13,7 @@ use Rattle.job.specs.Columns.{Columns}
 use Rattle.job.specs.Jobs.{jobOf, bOf, isSource}
 use Rattle.direct.specs.Direct.{directedOf}
 use Rattle.run.specs.declared.Run.{Run}
-use Rattle.run.specs.Fit.{Fits, channelAt, totalsAt, flagAt}
+use Rattle.run.specs.Fit.{Fits, channelAt, totalsAt, countAt}
 use Rattle.step.specs.Step.{offsetOf, lastOrNone}
 use Rattle.drain.specs.declared.Drained.{Drained}
 use Rattle.station.specs.Entries.{stepOn, stepsOn, drainOn}
@@ -24,8 +24,8 @@ use Rattle.promises.specs.Grown.{sentOn, deliveredFrom, recordsIn, recor
 pub record NothingLeft (J : Columns) (run : Run) : Type 0 where
   pub read-out : (s : ℕ) → s < jobOf J .tasks → isSource (jobOf J) s ≡ true → offsetOf run s ≡ natAbs (bOf (jobOf J) s)
   pub empty : (c : ℕ) → c < jobOf J .channels → channelAt run c .count ≡ 0
-  pub none-waits : (s : ℕ) → s < jobOf J .tasks → flagAt (run .waiting) s ≡ false
-  pub none-under-way : run .«under_way» ≡ false
+  pub none-waits : (s : ℕ) → s < jobOf J .tasks → countAt (run .waiting) s ≡ 0
+  pub none-under-way : run .«under_way» ≡ 0
 
 module _ (J : Columns) (ks : List ℕ) where
   -- a drain of the grown run, and the steps of 0 to 63 that it is, all of them done
@@ -68,7 +68,7 @@ module _ (J : Columns) (ks : List ℕ) where
     pub answers : (drained limit .answer ≡ 0) ⊎ (drained limit .answer ≡ 18)
     pub enough : 67_108_864 ≤ limit → drained limit .answer ≡ 0
     pub nothing-left : drained limit .answer ≡ 0 → NothingLeft J (drained limit .run)
-    pub completes : drained limit .answer ≡ 0 → grown J ks .«under_way» ≡ true → drained limit .run .complete ≡ true
+    pub completes : drained limit .answer ≡ 0 → 0 < grown J ks .«under_way» → drained limit .run .complete ≡ true
     pub totals : drained limit .answer ≡ 0 → directedOf J (wholeParts J) ≡ record { totals = drained limit .run .live; answer = 0 }
     -- "18 when the limit is spent and something is left, with the steps done"
     pub spent : drained limit .answer ≡ 18 → drained limit .steps ≡ limit

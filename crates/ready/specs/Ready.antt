@@ -48,12 +48,12 @@ abbrev pub headOf : Channel → Cargo
 headOf ch = getD (ch .items) 0 barrier .cargo
 
 -- the step is possible, by its task's count, its channel and the tasks with a full output
-unfoldable pub possibleBy : List ℕ → List ℕ → List ℤ → List Bool → List Bool → List Bool → ℕ → ℕ → ℕ → ℕ → Channel → Bool
+unfoldable pub possibleBy : List ℕ → List ℕ → List ℤ → List Bool → List ℕ → List Bool → ℕ → ℕ → ℕ → ℕ → Channel → Bool
 possibleBy to kinds b marked waiting full channels tasks n received ch =
     let t = taskBy to n in
     cond (ltb n 32)
     (deliversBy to marked channels n (ch .count) (headOf ch) (getD full t false) received)
-    (actsBy n (ltb t tasks) (getD kinds t 0) (getD b t (pos 0)) received (getD waiting t false) (getD full t false))
+    (actsBy n (ltb t tasks) (getD kinds t 0) (getD b t (pos 0)) received (ltb 0 (getD waiting t 0)) (getD full t false))
 
 -- the tasks with a full output, channel c looked at as well
 abbrev pub notedBy : List Bool → List ℕ → ℕ → ℕ → List Bool

@@ -129,7 +129,7 @@ pub fn is_possible<'a, 'b>(
     kinds: &'a [u8; 16],
     b: &'a [i32; 16],
     marked: &'b [bool; 32],
-    waiting: &'b [bool; 16],
+    waiting: &'b [u8; 16],
     full: &[bool; 16],
     channels: usize,
     tasks: usize,
@@ -157,7 +157,15 @@ pub fn is_possible<'a, 'b>(
             received,
         );
     }
-    acts(n, t < tasks, kinds[t], b[t], received, waiting[t], full[t])
+    acts(
+        n,
+        t < tasks,
+        kinds[t],
+        b[t],
+        received,
+        0 < waiting[t],
+        full[t],
+    )
 }
 
 // The tasks with a full output, channel `c` looked at as well.

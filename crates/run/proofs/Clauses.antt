@@ -3,16 +3,15 @@
 use mathlib.Core.Path.{_≡_, refl, sym, ap, ap₂, _∙_, subst}
 use mathlib.Core.Bool.{Bool, true, false, cond, not, _&&_, _||_, true≢false, false≢true}
 use mathlib.Core.Logic.{_↔_}
-use Prim.Native.Nat.{ℕ, _*_, _<_, _≤_}
+use Prim.Native.Nat.{ℕ, _<_, _≤_}
 use native.Mathlib.Omega.{arith}
 use borrow.Author.Tests.{ltb-true, ltb-false, leb-true, le-leb, lt-ltb, le-ltb, eqb-true, eqb-false, eq-eqb, ne-eqb, not-true}
 use lib.Dec.{eqb, ltb, leb}
-use lib.IntN.{ℤ, pos, negsuc, negℤ, natAbs}
+use lib.IntN.{ℤ, pos, negsuc, natAbs}
 use lib.ListN.{getD}
 use lib.Signed.{leZ}
 use Rattle.tally.specs.declared.Totals.{Totals}
 use Rattle.tally.specs.Totals.{noTotals}
-use Rattle.kinds.specs.Kinds.{within}
 use Rattle.channel.specs.declared.Channel.{Channel}
 use Rattle.channel.specs.Channels.{barrier}
 use Rattle.job.specs.declared.Job.{Job}
@@ -22,8 +21,8 @@ use Rattle.job.proofs.Bools.{both-true}
 use Rattle.job.proofs.Ints.{within-natAbs}
 use Rattle.job.proofs.Tests.{every-all, all-every}
 use Rattle.run.specs.declared.Run.{Run}
-use Rattle.run.specs.Fit.{channelAt, totalsAt, flagAt, cargoFits, sumFits, isZero, ChannelFits, TotalsFit, TaskFits, NothingHeld, Fits}
-use Rattle.run.specs.Fit.{channelFits, placeFits, channelsFit, totalsFit, limitOf, flagsFit, taskFits, tasksFit, runFits}
+use Rattle.run.specs.Fit.{channelAt, totalsAt, flagAt, countAt, cargoFits, sumFits, isZero, ChannelFits, TotalsFit, NothingHeld, Fits}
+use Rattle.run.specs.Fit.{channelFits, placeFits, channelsFit, totalsFit, limitOf, countsFit, taskFits, tasksFit, runFits}
 
 -- ---- a joined test, and a test of a case
 pub and-of : (a b : Bool) → a ≡ true → b ≡ true → a && b ≡ true
@@ -49,6 +48,46 @@ of-else false y f = f refl
 
 not-of : (b : Bool) → b ≡ false → not b ≡ true
 not-of b e = ap not e
+
+-- ---- the counts of one task
+record Counts (task source : Bool) (stored waiting : ℕ) : Type 0 where
+  stored-few : stored ≤ 1
+  waiting-few : waiting ≤ 1
+  no-stored : task ≡ false → stored ≡ 0
+  no-waiting : task ≡ false → waiting ≡ 0
+  waits : 0 < waiting → source ≡ true
+
+of-counts : (task source : Bool) (stored waiting : ℕ) → countsFit task source stored waiting ≡ true → Counts task source stored waiting
+of-counts task source stored waiting e =
+    let a = both-true (leb stored 1 && leb waiting 1 && (task || eqb stored 0)) (eqb waiting 0 || task && source) e in
+    let b = both-true (leb stored 1 && leb waiting 1) (task || eqb stored 0) (a .0) in
+    let c = both-true (leb stored 1) (leb waiting 1) (b .0) in
+    record {
+      stored-few = leb-true stored 1 (c .0);
+      waiting-few = leb-true waiting 1 (c .1);
+      no-stored = λ out. eqb-true stored 0 (else task (eqb stored 0) (b .1) out);
+      no-waiting = λ out. none (eqb waiting 0) refl task source out (a .1);
+      waits = λ w.
+          both-true task source
+          (else (eqb waiting 0) (task && source) (a .1) (ne-eqb waiting 0 (omega arith))) .1;
+    }
+  where
+    none : (b : Bool) → eqb waiting 0 ≡ b → (task source : Bool) → task ≡ false → b || task && source ≡ true → waiting ≡ 0
+    none true q task source out e = eqb-true waiting 0 q
+    none false q true source out e = absurd (true≢false out)
+    none false q false source out e = absurd (false≢true e)
+
+counts-are : (task source : Bool) (stored waiting : ℕ) → Counts task source stored waiting → countsFit task source stored waiting ≡ true
+counts-are task source stored waiting C =
+    and-of _ _ (and-of _ _ (and-of _ _ (le-leb stored 1 (C .stored-few)) (le-leb waiting 1 (C .waiting-few)))
+    (of-else task (eqb stored 0) (λ out. eq-eqb stored 0 (C .no-stored out))))
+    (of-else (eqb waiting 0) (task && source) (λ some.
+    let w : waiting ≡ 0 → ⊥ = eqb-false waiting 0 some in
+    and-of _ _ (there task refl w) (C .waits (omega arith))))
+  where
+    there : (b : Bool) → task ≡ b → (waiting ≡ 0 → ⊥) → b ≡ true
+    there true e w = refl
+    there false e w = absurd (w (C .no-waiting e))
 
 -- ---- channels
 pub channel-fits : (ch : Channel) → channelFits ch ≡ true → ChannelFits ch
@@ -153,7 +192,7 @@ module _ (job : Job) (Z : JobSized job) where
 
   -- ---- a task
   record Parts (run : Run) (t : ℕ) : Type 0 where
-    flags : flagsFit (ltb t (job .tasks)) (isSource job t) (flagAt (run .stored) t) (flagAt (run .waiting) t) ≡ true
+    counts : countsFit (ltb t (job .tasks)) (isSource job t) (countAt (run .stored) t) (countAt (run .waiting) t) ≡ true
     live : UpTo (limitOf job t) (totalsAt (run .live) t)
     half : UpTo (limitOf job t) (totalsAt (run .half) t)
     last : UpTo (limitOf job t) (totalsAt (run .last) t)
@@ -164,23 +203,31 @@ module _ (job : Job) (Z : JobSized job) where
       let a = both-true _ (totalsFit (totalsAt (run .last) t) (limitOf job t)) e in
       let b = both-true _ (totalsFit (totalsAt (run .half) t) (limitOf job t)) (a .0) in
       let c = both-true _ (totalsFit (totalsAt (run .live) t) (limitOf job t)) (b .0) in
-      record { flags = c .0; live = totals-up-to _ _ (c .1); half = totals-up-to _ _ (b .1); last = totals-up-to _ _ (a .1) }
+      record { counts = c .0; live = totals-up-to _ _ (c .1); half = totals-up-to _ _ (b .1); last = totals-up-to _ _ (a .1) }
 
   of-parts : (run : Run) (t : ℕ) → Parts run t → taskFits job run t ≡ true
   unfolding taskFits
   of-parts run t p =
-      and-of _ _ (and-of _ _ (and-of _ _ (p .flags) (up-to-totals _ _ (p .live))) (up-to-totals _ _ (p .half))) (up-to-totals _ _ (p .last))
+      and-of _ _ (and-of _ _ (and-of _ _ (p .counts) (up-to-totals _ _ (p .live))) (up-to-totals _ _ (p .half)))
+      (up-to-totals _ _ (p .last))
 
   module _ (run : Run) where
     -- ---- from the test to the clauses
     module _ (e : runFits job run ≡ true) where
+      three : (channelsFit run (job .channels) && tasksFit job run ≡ true) × (leb (run .«under_way») 1 ≡ true)
+      unfolding runFits
+      three = both-true (channelsFit run (job .channels) && tasksFit job run) (leb (run .«under_way») 1) e
+
+      two : (channelsFit run (job .channels) ≡ true) × (tasksFit job run ≡ true)
+      two = both-true (channelsFit run (job .channels)) (tasksFit job run) (three .0)
+
       place : (c : ℕ) → c < 32 → placeFits (channelAt run c) (flagAt (run .marked) c) c (job .channels) ≡ true
       unfolding runFits channelsFit
-      place = every-all _ 32 (both-true (channelsFit run (job .channels)) (tasksFit job run) e .0)
+      place = every-all _ 32 (two .0)
 
       task : (t : ℕ) → t < 16 → Parts run t
       unfolding runFits tasksFit
-      task t l = parts run t (every-all (taskFits job run) 16 (both-true (channelsFit run (job .channels)) (tasksFit job run) e .1) t l)
+      task t l = parts run t (every-all (taskFits job run) 16 (two .1) t l)
 
       channel-of : (c : ℕ) → c < 32 → ChannelFits (channelAt run c)
       unfolding placeFits
@@ -194,34 +241,24 @@ module _ (job : Job) (Z : JobSized job) where
           let x = both-true n m (else (ltb c (job .channels)) (n && m) (both-true (channelFits (channelAt run c)) _ (place c l) .1) (le-ltb c (job .channels) h)) in
           (eqb-true (channelAt run c .count) 0 (x .0), not-true (flagAt (run .marked) c) (x .1))
 
-      flags-of : (t : ℕ) → t < 16
-          → (ltb t (job .tasks) || not (flagAt (run .stored) t) ≡ true) × (not (flagAt (run .waiting) t) || ltb t (job .tasks) && isSource job t ≡ true)
-      flags-of t l = both-true (ltb t (job .tasks) || not (flagAt (run .stored) t)) (not (flagAt (run .waiting) t) || ltb t (job .tasks) && isSource job t) (task t l .flags)
+      counts-of : (t : ℕ) → t < 16 → Counts (ltb t (job .tasks)) (isSource job t) (countAt (run .stored) t) (countAt (run .waiting) t)
+      counts-of t l = of-counts _ _ _ _ (task t l .counts)
 
       nothing : (t : ℕ) → job .tasks ≤ t → t < 16 → NothingHeld run t
       nothing t h l =
           let p = task t l in
-          let f = flags-of t l in
+          let f = counts-of t l in
           let out = le-ltb t (job .tasks) h in
           record {
             live = all-zero _ (subst (λ n. UpTo n (totalsAt (run .live) t)) (limit-past t h) (p .live));
             half = all-zero _ (subst (λ n. UpTo n (totalsAt (run .half) t)) (limit-past t h) (p .half));
             last = all-zero _ (subst (λ n. UpTo n (totalsAt (run .last) t)) (limit-past t h) (p .last));
-            stored = not-true (flagAt (run .stored) t) (else (ltb t (job .tasks)) _ (f .0) out);
-            waiting = go (flagAt (run .waiting) t) refl (f .1) out;
+            stored = f .no-stored out;
+            waiting = f .no-waiting out;
           }
-        where
-          go : (w : Bool) → flagAt (run .waiting) t ≡ w → not (flagAt (run .waiting) t) || ltb t (job .tasks) && isSource job t ≡ true
-              → ltb t (job .tasks) ≡ false → w ≡ false
-          go true e f out = absurd (false≢true (ap (λ x. x && isSource job t) (sym out) ∙ only (flagAt (run .waiting) t) _ f e))
-          go false e f out = refl
 
-      waits-of : (t : ℕ) → t < job .tasks → flagAt (run .waiting) t ≡ true → isSource job t ≡ true
-      waits-of t l w =
-          both-true (ltb t (job .tasks)) (isSource job t) (only (flagAt (run .waiting) t) _ (flags-of t (omega (
-            arith,
-            Z .few-tasks,
-          )) .1) w) .1
+      waits-of : (t : ℕ) → t < job .tasks → 0 < countAt (run .waiting) t → isSource job t ≡ true
+      waits-of t l w = counts-of t (omega (arith, Z .few-tasks)) .waits w
 
       pub clauses : Fits job run
       clauses = record {
@@ -232,6 +269,8 @@ module _ (job : Job) (Z : JobSized job) where
         totals = λ t l.
             let p = task t (omega (arith, Z .few-tasks)) in
             record { live = totals-of t _ l (p .live); half = totals-of t _ l (p .half); last = totals-of t _ l (p .last) };
+        few = leb-true (run .«under_way») 1 (three .1);
+        counts = λ t l. (counts-of t l .stored-few, counts-of t l .waiting-few);
       }
 
     -- ---- from the clauses to the test
@@ -250,27 +289,34 @@ module _ (job : Job) (Z : JobSized job) where
       of-task : (t : ℕ) → t < 16 → Parts run t
       of-task t l = go (ltb t (job .tasks)) refl
         where
-          stored-ok : (b : Bool) → ltb t (job .tasks) ≡ b → b || not (flagAt (run .stored) t) ≡ true
-          stored-ok true e = refl
-          stored-ok false e = not-of (flagAt (run .stored) t) (F .no-task t (ltb-false t (job .tasks) e) l .stored)
-
-          waiting-ok : (b : Bool) → ltb t (job .tasks) ≡ b → not (flagAt (run .waiting) t) || b && isSource job t ≡ true
-          waiting-ok true e = of-only (flagAt (run .waiting) t) (isSource job t) (F .waits t (ltb-true t (job .tasks) e))
-          waiting-ok false e = ap (λ w. not w || false) (F .no-task t (ltb-false t (job .tasks) e) l .waiting)
-
-          flags-ok : flagsFit (ltb t (job .tasks)) (isSource job t) (flagAt (run .stored) t) (flagAt (run .waiting) t) ≡ true
-          flags-ok = and-of _ _ (stored-ok (ltb t (job .tasks)) refl) (waiting-ok (ltb t (job .tasks)) refl)
+          counts-ok : countsFit (ltb t (job .tasks)) (isSource job t) (countAt (run .stored) t) (countAt (run .waiting) t) ≡ true
+          counts-ok = counts-are _ _ _ _ (record {
+            stored-few = F .counts t l .0;
+            waiting-few = F .counts t l .1;
+            no-stored = λ out. F .no-task t (ltb-false t (job .tasks) out) l .stored;
+            no-waiting = λ out. F .no-task t (ltb-false t (job .tasks) out) l .waiting;
+            waits = λ w. source w (ltb t (job .tasks)) refl;
+          })
+            where
+              source : 0 < countAt (run .waiting) t → (b : Bool) → ltb t (job .tasks) ≡ b → isSource job t ≡ true
+              source w true e = F .waits t (ltb-true t (job .tasks) e) w
+              source w false e = absurd (omega (arith, F .no-task t (ltb-false t (job .tasks) e) l .waiting))
 
           go : (b : Bool) → ltb t (job .tasks) ≡ b → Parts run t
           go true e =
               let i = ltb-true t (job .tasks) e in
               let x = F .totals t i in
-              record { flags = flags-ok; live = of-totals t _ i (x .live); half = of-totals t _ i (x .half); last = of-totals t _ i (x .last) }
+              record {
+                counts = counts-ok;
+                live = of-totals t _ i (x .live);
+                half = of-totals t _ i (x .half);
+                last = of-totals t _ i (x .last);
+              }
           go false e =
               let h = ltb-false t (job .tasks) e in
               let x = F .no-task t h l in
               record {
-                flags = flags-ok;
+                counts = counts-ok;
                 live = none-up-to _ t h (x .live);
                 half = none-up-to _ t h (x .half);
                 last = none-up-to _ t h (x .last);
@@ -278,7 +324,9 @@ module _ (job : Job) (Z : JobSized job) where
 
       pub of-clauses : runFits job run ≡ true
       unfolding runFits channelsFit tasksFit
-      of-clauses = and-of _ _ (all-every _ 32 of-place) (all-every (taskFits job run) 16 (λ t l. of-parts run t (of-task t l)))
+      of-clauses =
+          and-of _ _ (and-of _ _ (all-every _ 32 of-place) (all-every (taskFits job run) 16 (λ t l. of-parts run t (of-task t l))))
+          (le-leb (run .«under_way») 1 (F .few))
 
     -- ANSWER 16, both ways
     pub fits-exact : (runFits job run ≡ true) ↔ Fits job run

@@ -35,6 +35,9 @@ totalsAt l t = getD l t noTotals
 abbrev pub flagAt : List Bool → ℕ → Bool
 flagAt l i = getD l i false
 
+abbrev pub countAt : List ℕ → ℕ → ℕ
+countAt l i = getD l i 0
+
 -- ---- the clauses
 -- "cylinders 1 to 20"; a value is always one of 32 bits: so says its type
 abbrev pub cargoFits : Cargo → Bool
@@ -71,8 +74,8 @@ pub record NothingHeld (run : Run) (t : ℕ) : Type 0 where
   pub live : totalsAt (run .live) t ≡ noTotals
   pub half : totalsAt (run .half) t ≡ noTotals
   pub last : totalsAt (run .last) t ≡ noTotals
-  pub stored : flagAt (run .stored) t ≡ false
-  pub waiting : flagAt (run .waiting) t ≡ false
+  pub stored : countAt (run .stored) t ≡ 0
+  pub waiting : countAt (run .waiting) t ≡ 0
 
 pub record Fits (job : Job) (run : Run) : Type 0 where
   pub channels : (c : ℕ) → c < 32 → ChannelFits (channelAt run c)
@@ -80,8 +83,11 @@ pub record Fits (job : Job) (run : Run) : Type 0 where
   pub no-channel : (c : ℕ) → job .channels ≤ c → c < 32 → (channelAt run c .count ≡ 0) × (flagAt (run .marked) c ≡ false)
   pub no-task : (t : ℕ) → job .tasks ≤ t → t < 16 → NothingHeld run t
   -- "a barrier waits only at sources"
-  pub waits : (t : ℕ) → t < job .tasks → flagAt (run .waiting) t ≡ true → isSource job t ≡ true
+  pub waits : (t : ℕ) → t < job .tasks → 0 < countAt (run .waiting) t → isSource job t ≡ true
   pub totals : (t : ℕ) → t < job .tasks → TaskFits job run t
+  -- one snapshot at most is under way, so one at most is stored by a task or waits at it
+  pub few : run .«under_way» ≤ 1
+  pub counts : (t : ℕ) → t < 16 → (countAt (run .stored) t ≤ 1) × (countAt (run .waiting) t ≤ 1)
 
 -- ---- the test
 unfoldable pub channelFits : Channel → Bool
@@ -106,12 +112,13 @@ unfoldable pub limitOf : Job → ℕ → ℕ
 limitOf job t = limitBy (ltb t (job .tasks)) (kindOf job t) (bOf job t)
 
 -- "held only for tasks .. that the job has", and "a barrier waits only at sources"
-abbrev pub flagsFit : Bool → Bool → Bool → Bool → Bool
-flagsFit task source stored waiting = (task || not stored) && (not waiting || task && source)
+abbrev pub countsFit : Bool → Bool → ℕ → ℕ → Bool
+countsFit task source stored waiting =
+    leb stored 1 && leb waiting 1 && (task || eqb stored 0) && (eqb waiting 0 || task && source)
 
 unfoldable pub taskFits : Job → Run → ℕ → Bool
 taskFits job run t =
-    flagsFit (ltb t (job .tasks)) (isSource job t) (flagAt (run .stored) t) (flagAt (run .waiting) t)
+    countsFit (ltb t (job .tasks)) (isSource job t) (countAt (run .stored) t) (countAt (run .waiting) t)
     && totalsFit (totalsAt (run .live) t) (limitOf job t)
     && totalsFit (totalsAt (run .half) t) (limitOf job t)
     && totalsFit (totalsAt (run .last) t) (limitOf job t)
@@ -120,4 +127,4 @@ unfoldable pub tasksFit : Job → Run → Bool
 tasksFit job run = every (taskFits job run) 16
 
 unfoldable pub runFits : Job → Run → Bool
-runFits job run = channelsFit run (job .channels) && tasksFit job run
+runFits job run = channelsFit run (job .channels) && tasksFit job run && leb (run .«under_way») 1

@@ -1,5 +1,6 @@
 -- The fresh run, and a run with one part changed (a record has no update, so each part that a step changes has its own).
 use mathlib.Core.Bool.{Bool, false}
+use Prim.Native.Nat.{ℕ}
 use mathlib.Core.List.{List, []}
 use lib.ListN.{replicate}
 use Rattle.tally.specs.declared.Totals.{Totals}
@@ -13,12 +14,12 @@ abbrev pub freshRun : Run
 freshRun = record {
   channels = replicate 32 emptyChannel;
   marked = replicate 32 false;
-  waiting = replicate 16 false;
+  waiting = replicate 16 0;
   live = replicate 16 noTotals;
   half = replicate 16 noTotals;
-  stored = replicate 16 false;
+  stored = replicate 16 0;
   last = replicate 16 noTotals;
-  «under_way» = false;
+  «under_way» = 0;
   complete = false;
 }
 
@@ -52,7 +53,7 @@ withMarked x run = record {
   complete = run .complete;
 }
 
-abbrev pub withWaiting : List Bool → Run → Run
+abbrev pub withWaiting : List ℕ → Run → Run
 withWaiting x run = record {
   channels = run .channels;
   marked = run .marked;
@@ -79,7 +80,7 @@ withLive x run = record {
 }
 
 -- the half-taken snapshot: the totals stored so far, and whose they are
-abbrev pub withHalf : List Totals → List Bool → Run → Run
+abbrev pub withHalf : List Totals → List ℕ → Run → Run
 withHalf x y run = record {
   channels = run .channels;
   marked = run .marked;
@@ -92,7 +93,7 @@ withHalf x y run = record {
   complete = run .complete;
 }
 
-abbrev pub withUnderWay : Bool → Run → Run
+abbrev pub withUnderWay : ℕ → Run → Run
 withUnderWay x run = record {
   channels = run .channels;
   marked = run .marked;
@@ -121,4 +122,4 @@ withLast x y run = record {
 
 -- the half-taken totals are emptied
 abbrev pub withoutHalf : Run → Run
-withoutHalf run = withHalf (replicate 16 noTotals) (replicate 16 false) run
+withoutHalf run = withHalf (replicate 16 noTotals) (replicate 16 0) run

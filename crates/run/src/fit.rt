@@ -5,7 +5,8 @@ ghost use Prim.Native.Nat.{_≤_};
 ghost use lib.IntN.{pos};
 ghost use Rattle.kinds.specs.Kinds.{within};
 ghost use Rattle.job.specs.Jobs.{JobSized};
-ghost use Rattle.run.specs.Fit.{cargoFits, channelFits, placeFits, channelsFit, sumFits, totalsFit, limitBy, flagsFit, tasksFit, runFits};
+ghost use Rattle.run.specs.Fit.{cargoFits, channelFits, placeFits, channelsFit};
+ghost use Rattle.run.specs.Fit.{sumFits, totalsFit, limitBy, countsFit, tasksFit, runFits};
 use crate::Run;
 use channel::Cargo;
 use channel::Channel;
@@ -96,10 +97,10 @@ fn limit_of(there: bool, kind: u8, b: i32) -> u32
     1048576
 }
 
-fn flags_fit(task: bool, source: bool, stored: bool, waiting: bool) -> bool
-    ensures { λ r. ⌜ r ≡ flagsFit task source stored waiting ⌝ }
+fn counts_fit(task: bool, source: bool, stored: u8, waiting: u8) -> bool
+    ensures { λ r. ⌜ r ≡ countsFit task source stored waiting ⌝ }
 {
-    (task | !stored) & (!waiting | (task & source))
+    (stored <= 1) & (waiting <= 1) & (task | (stored == 0)) & ((waiting == 0) | (task & source))
 }
 
 fn tasks_fit(job: Job, run: Run) -> bool
@@ -115,7 +116,7 @@ fn tasks_fit(job: Job, run: Run) -> bool
         let live = run.live[t];
         let half = run.half[t];
         let last = run.last[t];
-        let fits = flags_fit(there, kind == 0, run.stored[t], run.waiting[t])
+        let fits = counts_fit(there, kind == 0, run.stored[t], run.waiting[t])
             & totals_fit(live, limit)
             & totals_fit(half, limit)
             & totals_fit(last, limit);
@@ -129,5 +130,5 @@ pub fn run_fits(job: Job, run: Run) -> bool
     requires { ⌜ JobSized job ⌝ }
     ensures { λ r. ⌜ r ≡ runFits job run ⌝ }
 {
-    channels_fit(run, job.channels) & tasks_fit(job, run)
+    channels_fit(run, job.channels) & tasks_fit(job, run) & (run.under_way <= 1)
 }

@@ -10,12 +10,12 @@ use tally::Totals;
 pub struct Run {
     pub channels: [Channel; 32],
     pub marked: [bool; 32],
-    pub waiting: [bool; 16],
+    pub waiting: [u8; 16],
     pub live: [Totals; 16],
     pub half: [Totals; 16],
-    pub stored: [bool; 16],
+    pub stored: [u8; 16],
     pub last: [Totals; 16],
-    pub under_way: bool,
+    pub under_way: u8,
     pub complete: bool,
 }
 
@@ -27,12 +27,12 @@ impl Run {
         Run {
             channels: [Channel::empty(); 32],
             marked: [false; 32],
-            waiting: [false; 16],
+            waiting: [0; 16],
             live: [Totals::none(); 16],
             half: [Totals::none(); 16],
-            stored: [false; 16],
+            stored: [0; 16],
             last: [Totals::none(); 16],
-            under_way: false,
+            under_way: 0,
             complete: false,
         }
     }

@@ -1,10 +1,9 @@
 -- A STEP CHANGES ONLY WHAT THE TABLE SAYS: a delivery from channel c to task t leaves every channel as it was but c and the outputs of t,
 -- and the totals of every task but t; a source that reads or sends its barrier leaves every channel but its outputs, and every other task.
-use mathlib.Core.Bool.{Bool, true, false, cond, not, _&&_}
+use mathlib.Core.Bool.{Bool, true, false, cond, _&&_}
 use mathlib.Core.Path.{_≡_, refl, sym, ap, _∙_}
 use mathlib.Core.List.{List, [], _∷_}
-use Prim.Native.Nat.{ℕ, zero, suc, _<_, _≤_}
-use native.Mathlib.Omega.{arith}
+use Prim.Native.Nat.{ℕ, zero, suc}
 use borrow.Author.Tests.{eqb-true, eqb-false}
 use lib.Dec.{ltb, leb, eqb}
 use lib.IntN.{ℤ, natAbs}
@@ -19,7 +18,7 @@ use Rattle.job.specs.declared.Job.{Job}
 use Rattle.job.specs.Jobs.{bOf, toOf, isOutput, placeOf}
 use Rattle.run.specs.declared.Run.{Run}
 use Rattle.run.specs.Runs.{noChannel}
-use Rattle.run.specs.Fit.{channelAt, totalsAt, flagAt}
+use Rattle.run.specs.Fit.{channelAt, totalsAt, flagAt, countAt}
 use Rattle.outputs.specs.Outputs.{someFull, allMarked, allStored, eachPlace, carried, putOn, putAll}
 use Rattle.step.specs.declared.Stepped.{Stepped}
 use Rattle.step.specs.Algorithm.{completed, storedBy, barrierReceived, takenIn, recordReceived}
@@ -69,7 +68,7 @@ module _ (job : Job) where
       → Elsewhere run t taken (record { run = next; answer = 0 }) → Elsewhere run t taken (completed job next)
   unfolding completed
   completed-elsewhere run next t taken e =
-      cond-has (Elsewhere run t taken) (next .«under_way» && allStored job (next .stored))
+      cond-has (Elsewhere run t taken) (ltb 0 (next .«under_way») && allStored job (next .stored))
       (λ _. record { channels = e .channels; live = e .live }) (λ _. record { channels = e .channels; live = e .live })
 
   stored-elsewhere : (run next : Run) (t : ℕ) (taken : ℕ → Type 0)
@@ -134,7 +133,7 @@ module _ (job : Job) where
   unfolding barrierSent
   sent-elsewhere run t =
       cond-has (BySource run t) (isNoSource job t) (λ _. same run _ _ 11)
-      (λ _. cond-has (BySource run t) (not (flagAt (run .waiting) t)) (λ _. same run _ _ 13)
+      (λ _. cond-has (BySource run t) (eqb (countAt (run .waiting) t) 0) (λ _. same run _ _ 13)
       (λ _. cond-has (BySource run t) (someFull job (run .channels) t) (λ _. same run _ _ 14)
       (λ _. completed-elsewhere run _ t (λ d. ⊥) (stored-elsewhere run _ t (λ d. ⊥)
       (record { channels = λ d ne out. refl; live = λ u ne. refl })))))

@@ -1,20 +1,18 @@
 -- A STEP KEEPS A FITTING RUN FITTING (`stepped-fits`). The fit is taken place by place: what each list of the run holds at a place, and each
 -- part of a step keeps that of the lists it changes.
-use mathlib.Core.Bool.{Bool, true, false, cond, not, _&&_, _||_, true≢false, false≢true}
-use mathlib.Core.Path.{_≡_, refl, sym, ap, _∙_, subst}
+use mathlib.Core.Bool.{Bool, true, false, cond}
+use mathlib.Core.Path.{_≡_, refl}
 use mathlib.Core.List.{List, [], _∷_, _++_}
 use Prim.Native.Nat.{ℕ, zero, suc, _+_, _-_, _≤_, _<_, _^_}
 use native.Mathlib.Omega.{arith}
-use borrow.Author.Tests.{ltb-true, ltb-false, leb-false, le-leb, eqb-true, eqb-false, not-false}
-use lib.Dec.{ltb, leb, eqb}
+use borrow.Author.Tests.{ltb-true, le-leb, eqb-false}
+use lib.Dec.{ltb, eqb}
 use lib.IntN.{ℤ, pos, natAbs}
-use lib.ListN.{getD, set, drop, replicate, length}
+use lib.ListN.{getD, set, replicate}
 use lib.Seq.{getD-drop}
-use mir.Syntax.{w32}
-use mir.Val.{SFits}
 use Rattle.tally.specs.declared.Record.{Record}
 use Rattle.tally.specs.declared.Totals.{Totals}
-use Rattle.tally.specs.Totals.{noTotals, withValue}
+use Rattle.tally.specs.Totals.{noTotals}
 use Rattle.kinds.specs.declared.Sending.{Sending}
 use Rattle.kinds.specs.declared.Sending.the-variants.{Nothing, One}
 use Rattle.kinds.specs.Kinds.{sentOn, oneIf, within, isPlace, scaled}
@@ -26,29 +24,28 @@ use Rattle.channel.specs.declared.Added.{Added}
 use Rattle.channel.specs.declared.Taken.{Taken}
 use Rattle.channel.specs.Channels.{barrier, emptyChannel, withItem, withoutHead}
 use Rattle.job.specs.declared.Job.{Job}
-use Rattle.job.specs.Columns.{RecordsFit}
-use Rattle.job.specs.Jobs.{aOf, bOf, toOf, isSource, isInput, isOutput}
+use Rattle.job.specs.Jobs.{isSource, isOutput}
 use Rattle.job.specs.Graph.{sentBy}
-use Rattle.job.specs.Fits.{JobFits}
 use Rattle.run.specs.declared.Run.{Run}
-use Rattle.run.specs.Runs.{noChannel, withChannels, withMarked, withWaiting, withLive, withHalf, withoutHalf, withUnderWay, withLast}
-use Rattle.run.specs.Fit.{channelAt, totalsAt, flagAt, cargoFits, ChannelFits, TotalsFit, Fits}
+use Rattle.run.specs.Runs.{noChannel}
+use Rattle.run.specs.Fit.{channelAt, totalsAt, flagAt, countAt, cargoFits, ChannelFits, TotalsFit, Fits}
 use Rattle.run.proofs.Ints.{is-value, value-is}
 use Rattle.run.proofs.Clauses.{and-of}
-use Rattle.outputs.specs.Outputs.{someFull, allMarked, allStored, eachPlace, unmarked, sourcesWait, put, putSent, carried, putOn, putAll}
+use Rattle.outputs.specs.Outputs.{eachPlace, put, putSent, carried, putOn, putAll}
 use Rattle.outputs.proofs.Cargos.{cylinder-from-1, cylinder-to-20, value-fits}
-use Rattle.step.specs.declared.Stepped.{Stepped}
-use Rattle.step.specs.Algorithm.{answered, sealed, completed, storedBy, barrierReceived, takenIn, recordReceived}
-use Rattle.step.specs.Step.{withCargo, withTaken, delivered, isNoSource, offsetOf, nextRecord, sourceRead, barrierSent, begun, lastOrNone, cutOff, stepped}
-use Rattle.step.proofs.Rooms.{with-fits}
-use Rattle.step.proofs.Sources.{source-is, head-fits}
-use Rattle.step.proofs.Lent.{record-fits, inside-part, part-short}
+use Rattle.step.specs.Algorithm.{turnOf}
 
 -- ---- plain laws
 -- a choice has what both sides have
 pub cond-has : {A : Type 0} (P : A → Type 0) (b : Bool) {x y : A} → (b ≡ true → P x) → (b ≡ false → P y) → P (cond b x y)
 cond-has P true p q = p refl
 cond-has P false p q = q refl
+
+-- with one under way at most, a task stores the first
+pub turn-first : (stored under : ℕ) → under ≤ 1 → turnOf stored under ≡ 0
+unfolding turnOf
+turn-first stored under h =
+    cond-has (λ n. n ≡ 0) (ltb stored under) (λ e. let l = ltb-true stored under e in omega arith) (λ _. omega arith)
 
 -- each place after a store
 pub set-has : {A : Type 0} (P : ℕ → A → Type 0) (l : List A) (k : ℕ) (x d : A) (j : ℕ) → P k x → P j d → ((j ≡ k → ⊥) → P j (getD l j d))
@@ -161,21 +158,24 @@ module _ (job : Job) where
   abbrev pub MarkPlace : ℕ → Bool → Type 0
   MarkPlace c mark = job .channels ≤ c → mark ≡ false
 
-  abbrev pub StoredPlace : ℕ → Bool → Type 0
-  StoredPlace t flag = job .tasks ≤ t → flag ≡ false
+  pub record StoredPlace (t n : ℕ) : Type 0 where
+    pub few : n ≤ 1
+    pub unused : job .tasks ≤ t → n ≡ 0
 
-  pub record WaitPlace (t : ℕ) (flag : Bool) : Type 0 where
-    pub source : t < job .tasks → flag ≡ true → isSource job t ≡ true
-    pub unused : job .tasks ≤ t → flag ≡ false
+  pub record WaitPlace (t n : ℕ) : Type 0 where
+    pub few : n ≤ 1
+    pub source : t < job .tasks → 0 < n → isSource job t ≡ true
+    pub unused : job .tasks ≤ t → n ≡ 0
 
   pub record Placed (run : Run) : Type 0 where
     pub channels : (c : ℕ) → c < 32 → ChannelPlace c (channelAt run c)
     pub marked : (c : ℕ) → c < 32 → MarkPlace c (flagAt (run .marked) c)
-    pub waiting : (t : ℕ) → t < 16 → WaitPlace t (flagAt (run .waiting) t)
+    pub waiting : (t : ℕ) → t < 16 → WaitPlace t (countAt (run .waiting) t)
     pub live : (t : ℕ) → t < 16 → TotalsPlace t (totalsAt (run .live) t)
     pub half : (t : ℕ) → t < 16 → TotalsPlace t (totalsAt (run .half) t)
-    pub stored : (t : ℕ) → t < 16 → StoredPlace t (flagAt (run .stored) t)
+    pub stored : (t : ℕ) → t < 16 → StoredPlace t (countAt (run .stored) t)
     pub last : (t : ℕ) → t < 16 → TotalsPlace t (totalsAt (run .last) t)
+    pub under-way : run .«under_way» ≤ 1
 
   none-fit : (t : ℕ) → TotalsFit job t noTotals
   none-fit t = record { counts = omega arith; source = λ e. omega arith; sums = refl; empty = λ e. (refl, refl) }
@@ -186,8 +186,11 @@ module _ (job : Job) where
   no-channel-place : (c : ℕ) → ChannelPlace c noChannel
   no-channel-place c = record { fits = none-fits; unused = λ h. refl }
 
-  pub no-wait : (t : ℕ) → WaitPlace t false
-  no-wait t = record { source = λ l e. absurd (false≢true e); unused = λ h. refl }
+  pub no-wait : (t : ℕ) → WaitPlace t 0
+  no-wait t = record { few = omega arith; source = λ l e. absurd (omega arith); unused = λ h. refl }
+
+  pub none-stored : (t : ℕ) → StoredPlace t 0
+  none-stored t = record { few = omega arith; unused = λ h. refl }
 
   module _ (few : job .tasks ≤ 16) where
     pub fits-of : (run : Run) → Placed run → Fits job run
@@ -198,22 +201,25 @@ module _ (job : Job) where
         live = P .live t l .unused h;
         half = P .half t l .unused h;
         last = P .last t l .unused h;
-        stored = P .stored t l h;
+        stored = P .stored t l .unused h;
         waiting = P .waiting t l .unused h;
       };
       waits = λ t l e. P .waiting t (omega arith) .source l e;
       totals = λ t l. record { live = P .live t (omega arith) .fits l; half = P .half t (omega arith) .fits l; last = P .last t (omega arith) .fits l };
+      few = P .under-way;
+      counts = λ t l. (P .stored t l .few, P .waiting t l .few);
     }
 
     pub placed : (run : Run) → Fits job run → Placed run
     placed run F = record {
       channels = λ c l. record { fits = F .channels c l; unused = λ h. F .no-channel c h l .0 };
       marked = λ c l h. F .no-channel c h l .1;
-      waiting = λ t l. record { source = λ i e. F .waits t i e; unused = λ h. F .no-task t h l .waiting };
+      waiting = λ t l. record { few = F .counts t l .1; source = λ i e. F .waits t i e; unused = λ h. F .no-task t h l .waiting };
       live = λ t l. record { fits = λ i. F .totals t i .live; unused = λ h. F .no-task t h l .live };
       half = λ t l. record { fits = λ i. F .totals t i .half; unused = λ h. F .no-task t h l .half };
-      stored = λ t l h. F .no-task t h l .stored;
+      stored = λ t l. record { few = F .counts t l .0; unused = λ h. F .no-task t h l .stored };
       last = λ t l. record { fits = λ i. F .totals t i .last; unused = λ h. F .no-task t h l .last };
+      under-way = F .few;
     }
 
   -- ---- each part of a step
@@ -252,5 +258,8 @@ module _ (job : Job) where
   pub unset : (n i : ℕ) → getD (replicate n false) i false ≡ false
   unset n i = replicate-has (λ b. b ≡ false) n false false i refl refl
 
-  pub unwaiting : (t : ℕ) → WaitPlace t (getD (replicate 16 false) t false)
-  unwaiting t = replicate-has (WaitPlace t) 16 false false t (no-wait t) (no-wait t)
+  pub unwaiting : (t : ℕ) → WaitPlace t (getD (replicate 16 0) t 0)
+  unwaiting t = replicate-has (WaitPlace t) 16 0 0 t (no-wait t) (no-wait t)
+
+  pub unstored : (t : ℕ) → StoredPlace t (getD (replicate 16 0) t 0)
+  unstored t = replicate-has (StoredPlace t) 16 0 0 t (none-stored t) (none-stored t)

@@ -1,55 +1,55 @@
 -- A STEP KEEPS A FITTING RUN FITTING (`stepped-fits`), part by part and then by the step's number.
-use mathlib.Core.Bool.{Bool, true, false, cond, not, _&&_, _||_, false≢true}
-use mathlib.Core.Path.{_≡_, refl, sym, ap, _∙_, subst}
+use mathlib.Core.Bool.{Bool, true, false, cond, _&&_, false≢true}
+use mathlib.Core.Path.{_≡_, refl, sym, _∙_}
 use mathlib.Core.List.{List}
 use Prim.Native.Nat.{ℕ, _+_, _-_, _≤_, _<_}
 use native.Mathlib.Omega.{arith}
-use borrow.Author.Tests.{ltb-true, ltb-false, leb-false, eqb-true}
+use borrow.Author.Tests.{ltb-true, leb-false, eqb-true}
 use lib.Dec.{ltb, leb, eqb}
 use lib.IntN.{ℤ, natAbs}
-use lib.ListN.{getD, set, replicate, length}
+use lib.ListN.{set, length}
 use Rattle.tally.specs.declared.Record.{Record}
 use Rattle.tally.specs.declared.Totals.{Totals}
-use Rattle.tally.specs.Totals.{noTotals, withValue}
+use Rattle.tally.specs.Totals.{noTotals}
 use Rattle.channel.specs.declared.Cargo.{Cargo}
 use Rattle.channel.specs.declared.Cargo.the-variants.{Barrier, Record as Recorded}
-use Rattle.channel.specs.declared.Channel.{Channel}
-use Rattle.channel.specs.declared.Taken.{Taken}
 use Rattle.channel.specs.Channels.{withoutHead}
 use Rattle.job.specs.declared.Job.{Job}
 use Rattle.job.specs.Columns.{RecordsFit}
-use Rattle.job.specs.Jobs.{aOf, bOf, toOf, isSource, isInput}
+use Rattle.job.specs.Jobs.{aOf, bOf, toOf, isSource}
 use Rattle.job.specs.Fits.{JobFits}
 use Rattle.run.specs.declared.Run.{Run}
-use Rattle.run.specs.Runs.{noChannel, withChannels, withMarked, withWaiting}
-use Rattle.run.specs.Fit.{channelAt, totalsAt, flagAt, cargoFits, Fits}
+use Rattle.run.specs.Fit.{channelAt, totalsAt, flagAt, countAt, cargoFits, Fits}
 use Rattle.run.proofs.Ints.{is-value}
-use Rattle.outputs.specs.Outputs.{someFull, allMarked, allStored, unmarked, sourcesWait}
+use Rattle.outputs.specs.Outputs.{someFull, allMarked, allStored, unmarked, atMostOf, sourcesWait}
+use Rattle.outputs.proofs.Places.{at-most}
 use Rattle.outputs.proofs.Cargos.{value-fits}
 use Rattle.step.specs.declared.Stepped.{Stepped}
-use Rattle.step.specs.Algorithm.{answered, completed, storedBy, barrierReceived, takenIn, recordReceived}
+use Rattle.step.specs.Algorithm.{completed, storedBy, barrierReceived, takenIn, recordReceived}
 use Rattle.step.specs.Step.{withCargo, withTaken, delivered, isNoSource, offsetOf, nextRecord, sourceRead, barrierSent}
-use Rattle.step.specs.Step.{begun, lastOrNone, cutOff, stepped}
+use Rattle.step.specs.Step.{begun, cutOff, stepped}
 use Rattle.step.proofs.Rooms.{with-fits}
-use Rattle.step.proofs.Sources.{source-is, head-of, head-fits}
+use Rattle.step.proofs.Sources.{source-is, head-fits}
 use Rattle.step.proofs.Lent.{record-fits, inside-part, part-short}
-use Rattle.step.proofs.Fitting.{cond-has, set-has, places-have, ChannelPlace, TotalsPlace, MarkPlace, StoredPlace, WaitPlace, Placed}
-use Rattle.step.proofs.Fitting.{fits-of, placed, put-all-placed, rest-placed, emptied-placed, zeros-placed, unset, unwaiting, no-totals, no-wait}
+use Rattle.step.proofs.Fitting.{cond-has, turn-first, set-has, places-have, TotalsPlace, MarkPlace, StoredPlace, WaitPlace, Placed}
+use Rattle.step.proofs.Fitting.{fits-of, placed, put-all-placed, rest-placed, emptied-placed, zeros-placed}
+use Rattle.step.proofs.Fitting.{unset, unwaiting, unstored, no-totals, no-wait, none-stored}
 
 module _ (job : Job) where
   -- the snapshot becomes the last complete one
   completed-placed : (run : Run) → Placed job run → Placed job (completed job run .run)
   unfolding completed
   completed-placed run P =
-      cond-has (λ (s : Stepped). Placed job (s .run)) (run .«under_way» && allStored job (run .stored))
+      cond-has (λ (s : Stepped). Placed job (s .run)) (ltb 0 (run .«under_way») && allStored job (run .stored))
       (λ _. record {
         channels = P .channels;
         marked = P .marked;
         waiting = P .waiting;
         live = P .live;
         half = λ t l. zeros-placed job t;
-        stored = λ t l h. unset job 16 t;
+        stored = λ t l. unstored job t;
         last = P .half;
+        under-way = omega arith;
       }) (λ _. P)
 
   -- task t stores and puts a barrier on every output
@@ -61,8 +61,14 @@ module _ (job : Job) where
     waiting = P .waiting;
     live = P .live;
     half = λ u. set-has (λ u x. u < 16 → TotalsPlace job u x) (run .half) t _ noTotals u (P .live t) (λ l. no-totals job u) (λ ne. P .half u);
-    stored = λ u. set-has (λ u x. u < 16 → StoredPlace job u x) (run .stored) t true false u (λ l h. absurd (omega arith)) (λ l h. refl) (λ ne. P .stored u);
+    stored = λ u. set-has (λ u x. u < 16 → StoredPlace job u x) (run .stored) t _ 0 u
+        (λ l. record {
+          few = omega (arith, turn-first (countAt (run .stored) t) (run .«under_way») (P .under-way));
+          unused = λ h. absurd (omega arith);
+        })
+        (λ l. none-stored job u) (λ ne. P .stored u);
     last = P .last;
+    under-way = P .under-way;
   }
 
   barrier-placed : (run : Run) (t c : ℕ) → t < job .tasks → c < job .channels → Placed job run
@@ -83,6 +89,7 @@ module _ (job : Job) where
         half = P .half;
         stored = P .stored;
         last = P .last;
+        under-way = P .under-way;
       }))))
       (λ _. record {
         channels = rest;
@@ -92,6 +99,7 @@ module _ (job : Job) where
         half = P .half;
         stored = P .stored;
         last = P .last;
+        under-way = P .under-way;
       })
 
   -- a record counted and sent on
@@ -108,6 +116,7 @@ module _ (job : Job) where
     half = P .half;
     stored = P .stored;
     last = P .last;
+    under-way = P .under-way;
   }
 
   record-placed : (run : Run) (t c : ℕ) (r : Record) → t < job .tasks → isSource job t ≡ false → cargoFits (Recorded r) ≡ true → Placed job run
@@ -124,6 +133,7 @@ module _ (job : Job) where
         half = P .half;
         stored = P .stored;
         last = P .last;
+        under-way = P .under-way;
       })))
 
   module _ (records : ℕ) (J : JobFits job records) where
@@ -163,36 +173,49 @@ module _ (job : Job) where
     unfolding barrierSent
     sent-placed run t P =
         cond-has (λ (s : Stepped). Placed job (s .run)) (isNoSource job t) (λ _. P)
-        (λ is. cond-has (λ (s : Stepped). Placed job (s .run)) (not (flagAt (run .waiting) t)) (λ _. P)
+        (λ is. cond-has (λ (s : Stepped). Placed job (s .run)) (eqb (countAt (run .waiting) t) 0) (λ _. P)
         (λ _. cond-has (λ (s : Stepped). Placed job (s .run)) (someFull job (run .channels) t) (λ _. P)
         (λ _. completed-placed _ (stored-placed _ t (source-is job t is .0) (record {
           channels = P .channels;
           marked = P .marked;
-          waiting = λ u. set-has (λ u x. u < 16 → WaitPlace job u x) (run .waiting) t false false u (λ l. no-wait job t) (λ l. no-wait job u) (λ ne. P .waiting u);
+          waiting = λ u. set-has (λ u x. u < 16 → WaitPlace job u x) (run .waiting) t _ 0 u
+              (λ l. record {
+                few = omega (arith, P .waiting t l .few);
+                source = λ i e. P .waiting t l .source i (omega arith);
+                unused = λ h. omega (arith, P .waiting t l .unused h);
+              }) (λ l. no-wait job u) (λ ne. P .waiting u);
           live = P .live;
           half = P .half;
           stored = P .stored;
           last = P .last;
+          under-way = P .under-way;
         })))))
 
     begun-placed : (run : Run) → Placed job run → Placed job (begun job run .run)
     unfolding begun sourcesWait
     begun-placed run P =
-        cond-has (λ (s : Stepped). Placed job (s .run)) (run .«under_way») (λ _. P)
-        (λ _. record {
+        cond-has (λ (s : Stepped). Placed job (s .run)) (leb 1 (run .«under_way»)) (λ _. P)
+        (λ e. let none = leb-false 1 (run .«under_way») e in
+        record {
           channels = P .channels;
           marked = P .marked;
-          waiting = places-have (λ t x. t < 16 → WaitPlace job t x) false _ (run .waiting) (job .tasks)
-              (λ t x l p i. record { source = λ j e. waits t x (p i) j e; unused = λ out. absurd (omega arith) }) (λ t i. no-wait job t) (P .waiting);
+          waiting = places-have (λ t x. t < 16 → WaitPlace job t x) 0 _ (run .waiting) (job .tasks)
+              (λ t x l p i. waits t x (isSource job t) refl (omega arith) l (p i)) (λ t i. no-wait job t) (P .waiting);
           live = P .live;
           half = λ t l. zeros-placed job t;
-          stored = λ t l h. unset job 16 t;
+          stored = λ t l. unstored job t;
           last = P .last;
+          under-way = omega arith;
         })
       where
-        waits : (t : ℕ) (x : Bool) → WaitPlace job t x → t < job .tasks → x || isSource job t ≡ true → isSource job t ≡ true
-        waits t true p l e = p .source l refl
-        waits t false p l e = e
+        waits : (t x : ℕ) (b : Bool) → isSource job t ≡ b → run .«under_way» < 1 → t < job .tasks → WaitPlace job t x
+            → WaitPlace job t (cond b (atMostOf (run .«under_way») x + 1) x)
+        waits t x true e none l p = record {
+          few = omega (arith, at-most (run .«under_way») x);
+          source = λ i h. e;
+          unused = λ h. absurd (omega arith);
+        }
+        waits t x false e none l p = p
 
     cut-placed : (run : Run) → Placed job run → Placed job (cutOff run)
     unfolding cutOff
@@ -202,8 +225,9 @@ module _ (job : Job) where
       waiting = λ t l. unwaiting job t;
       live = λ t l. cond-has (λ (x : List Totals). TotalsPlace job t (totalsAt x t)) (run .complete) (λ _. P .last t l) (λ _. zeros-placed job t);
       half = λ t l. zeros-placed job t;
-      stored = λ t l h. unset job 16 t;
+      stored = λ t l. unstored job t;
       last = P .last;
+      under-way = omega arith;
     }
 
     stepped-placed : (c v : List ℤ) (run : Run) (n : ℕ) → length c ≡ records → RecordsFit c v → Placed job run → Placed job (stepped job c v run n .run)

@@ -1,5 +1,5 @@
 -- A REFUSED STEP GIVES THE RUN AS IT CAME (`refused-same`): whenever the answer is neither 0 nor 20.
-use mathlib.Core.Bool.{Bool, true, false, not, _&&_}
+use mathlib.Core.Bool.{true, _&&_}
 use mathlib.Core.Path.{_≡_, refl}
 use mathlib.Core.List.{List}
 use Prim.Native.Nat.{ℕ, _-_}
@@ -13,7 +13,7 @@ use Rattle.channel.specs.Channels.{withoutHead}
 use Rattle.job.specs.declared.Job.{Job}
 use Rattle.job.specs.Jobs.{bOf, toOf}
 use Rattle.run.specs.declared.Run.{Run}
-use Rattle.run.specs.Fit.{channelAt, totalsAt, flagAt}
+use Rattle.run.specs.Fit.{channelAt, totalsAt, flagAt, countAt}
 use Rattle.outputs.specs.Outputs.{someFull, allMarked, allStored}
 use Rattle.step.specs.declared.Stepped.{Stepped}
 use Rattle.step.specs.Algorithm.{completed, barrierReceived, recordReceived}
@@ -28,7 +28,8 @@ module _ (job : Job) (run : Run) where
   completed-same : (next : Run) → SameIfRefused run (completed job next)
   unfolding completed
   completed-same next =
-      cond-has (SameIfRefused run) (next .«under_way» && allStored job (next .stored)) (λ _ z e. absurd (e refl)) (λ _ z e. absurd (z refl))
+      cond-has (SameIfRefused run) (ltb 0 (next .«under_way») && allStored job (next .stored)) (λ _ z e. absurd (e refl))
+      (λ _ z e. absurd (z refl))
 
   cargo-same : (c : ℕ) (cargo : Cargo) (rest : Channel) → SameIfRefused run (withCargo job run c cargo rest)
   unfolding barrierReceived recordReceived
@@ -53,8 +54,8 @@ module _ (job : Job) (run : Run) where
       (λ _. cond-has (SameIfRefused run) (someFull job (run .channels) (n - 32)) (λ _ z e. refl) (λ _ z e. absurd (z refl)))))
       (λ _. cond-has (SameIfRefused run) (ltb n 64)
       (λ _. cond-has (SameIfRefused run) (isNoSource job (n - 48)) (λ _ z e. refl)
-      (λ _. cond-has (SameIfRefused run) (not (flagAt (run .waiting) (n - 48))) (λ _ z e. refl)
+      (λ _. cond-has (SameIfRefused run) (eqb (countAt (run .waiting) (n - 48)) 0) (λ _ z e. refl)
       (λ _. cond-has (SameIfRefused run) (someFull job (run .channels) (n - 48)) (λ _ z e. refl) (λ _. completed-same _))))
       (λ _. cond-has (SameIfRefused run) (eqb n 64)
-      (λ _. cond-has (SameIfRefused run) (run .«under_way») (λ _ z e. refl) (λ _ z e. absurd (z refl)))
+      (λ _. cond-has (SameIfRefused run) (leb 1 (run .«under_way»)) (λ _ z e. refl) (λ _ z e. absurd (z refl)))
       (λ _. cond-has (SameIfRefused run) (eqb n 65) (λ _ z e. absurd (z refl)) (λ _ z e. refl)))))

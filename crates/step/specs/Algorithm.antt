@@ -8,10 +8,9 @@
 --                          14, 15  unblock each input
 --   upon receive msg:      18, 19  {state', out_records} := udf(msg, state); state := state'
 --                          20, 21  send each out_record on its output
-use mathlib.Core.Bool.{Bool, true, false, cond, _&&_}
-use mathlib.Core.List.{List}
-use Prim.Native.Nat.{ℕ}
-use lib.Dec.{leb}
+use mathlib.Core.Bool.{true, cond, _&&_}
+use Prim.Native.Nat.{ℕ, _+_, _-_}
+use lib.Dec.{ltb, leb}
 use lib.ListN.{set}
 use Rattle.tally.specs.declared.Record.{Record}
 use Rattle.tally.specs.Totals.{withValue}
@@ -20,7 +19,7 @@ use Rattle.channel.specs.declared.Channel.{Channel}
 use Rattle.job.specs.declared.Job.{Job}
 use Rattle.run.specs.declared.Run.{Run}
 use Rattle.run.specs.Runs.{withChannels, withMarked, withLive, withHalf, withLast, withUnderWay, withoutHalf}
-use Rattle.run.specs.Fit.{totalsAt}
+use Rattle.run.specs.Fit.{totalsAt, countAt}
 use Rattle.outputs.specs.Outputs.{someFull, allMarked, allStored, unmarked, putAll}
 use Rattle.step.specs.declared.Stepped.{Stepped}
 
@@ -30,16 +29,22 @@ answered n run = record { run = run; answer = n }
 -- "if a snapshot is under way and every task has stored, it becomes the last complete one, the half-taken totals are emptied and none is
 --  under way"
 abbrev pub sealed : Run → Run
-sealed run = withUnderWay false (withoutHalf (withLast (run .half) true run))
+sealed run = withUnderWay 0 (withoutHalf (withLast (run .half) true run))
 
 unfoldable pub completed : Job → Run → Stepped
-completed job run = cond (run .«under_way» && allStored job (run .stored)) (answered 20 (sealed run)) (answered 0 run)
+completed job run = cond (ltb 0 (run .«under_way») && allStored job (run .stored)) (answered 20 (sealed run)) (answered 0 run)
+
+-- which of those under way a task stores next: the first that it has not stored, and the last where it has stored them all, as may be for
+-- a stray barrier. With one under way at most that is the one with the number 0
+unfoldable pub turnOf : ℕ → ℕ → ℕ
+turnOf stored under = cond (ltb stored under) stored (under - 1)
 
 -- 12, 13: the task's totals are stored in the half-taken snapshot, and a barrier goes on every output
 unfoldable pub storedBy : Job → Run → ℕ → Run
 storedBy job run t =
     withChannels (putAll job t Barrier (run .channels))
-    (withHalf (set (run .half) t (totalsAt (run .live) t)) (set (run .stored) t true) run)
+    (withHalf (set (run .half) t (totalsAt (run .live) t))
+    (set (run .stored) t (turnOf (countAt (run .stored) t) (run .«under_way») + 1)) run)
 
 -- 7 to 15, at task t for a barrier that came over channel c
 unfoldable pub barrierReceived : Job → Run → ℕ → ℕ → Channel → Stepped

@@ -19,7 +19,7 @@ use Rattle.job.specs.Jobs.{bOf, fromOf, toOf, isSource}
 use Rattle.job.specs.Graph.{overChannel}
 use Rattle.run.specs.declared.Run.{Run}
 use Rattle.run.specs.Runs.{withChannels, withMarked, withLive, withHalf, withoutHalf, withLast, withUnderWay}
-use Rattle.run.specs.Fit.{channelAt, totalsAt, flagAt}
+use Rattle.run.specs.Fit.{channelAt, totalsAt, flagAt, countAt}
 use Rattle.step.specs.declared.Stepped.{Stepped}
 
 -- arrays of the sizes that the run's type gives them
@@ -41,7 +41,7 @@ abbrev pub Source : Job → ℕ → Type 0
 Source job t = (t < job .tasks) × (isSource job t ≡ true)
 
 abbrev pub AllStored : Job → Run → Type 0
-AllStored job run = (run .«under_way» ≡ true) × ((t : ℕ) → t < job .tasks → flagAt (run .stored) t ≡ true)
+AllStored job run = (0 < run .«under_way») × ((t : ℕ) → t < job .tasks → 0 < countAt (run .stored) t)
 
 module _ (job : Job) (run : Run) where
   -- channel n is one of the job's, and not blocked
@@ -69,9 +69,9 @@ module _ (job : Job) (run : Run) where
     read-out : {t : ℕ} → Source job t → totalsAt (run .live) t .count ≡ natAbs (bOf job t) → Refused (32 + t) 13
     no-room-to-read : {t : ℕ} → Source job t → totalsAt (run .live) t .count < natAbs (bOf job t) → Full t → Refused (32 + t) 14
     cannot-send : {t : ℕ} → t < 16 → (Source job t → ⊥) → Refused (48 + t) 11
-    none-waits : {t : ℕ} → Source job t → flagAt (run .waiting) t ≡ false → Refused (48 + t) 13
-    no-room-to-send : {t : ℕ} → Source job t → flagAt (run .waiting) t ≡ true → Full t → Refused (48 + t) 14
-    under-way : run .«under_way» ≡ true → Refused 64 15
+    none-waits : {t : ℕ} → Source job t → countAt (run .waiting) t ≡ 0 → Refused (48 + t) 13
+    no-room-to-send : {t : ℕ} → Source job t → 0 < countAt (run .waiting) t → Full t → Refused (48 + t) 14
+    under-way : 1 ≤ run .«under_way» → Refused 64 15
     no-such-step : {n : ℕ} → 66 ≤ n → Refused n 11
 
 -- ---- what a step does from a run `x` to a run `y`: what changes, and in the last field that nothing else does
@@ -103,13 +103,13 @@ module _ (job : Job) (x y : Run) where
   pub record Passed (t : ℕ) : Type 0 where
     pub cleared : (d : ℕ) → d < job .channels → toOf job d ≡ t → flagAt (y .marked) d ≡ false
     pub marks : (d : ℕ) → (d < job .channels → toOf job d ≡ t → ⊥) → flagAt (y .marked) d ≡ flagAt (x .marked) d
-    pub state : (totalsAt (y .half) t ≡ totalsAt (x .live) t) × (flagAt (y .stored) t ≡ true)
-    pub states : (u : ℕ) → (u ≡ t → ⊥) → (totalsAt (y .half) u ≡ totalsAt (x .half) u) × (flagAt (y .stored) u ≡ flagAt (x .stored) u)
+    pub state : (totalsAt (y .half) t ≡ totalsAt (x .live) t) × (countAt (y .stored) t ≡ 1)
+    pub states : (u : ℕ) → (u ≡ t → ⊥) → (totalsAt (y .half) u ≡ totalsAt (x .half) u) × (countAt (y .stored) u ≡ countAt (x .stored) u)
     pub sent : Sent t (λ d. barrier ∷ [])
     pub rest : y ≡ withChannels (y .channels) (withHalf (y .half) (y .stored) (withMarked (y .marked) x))
 
 -- "After a step that stored a task's totals, and only then: if a snapshot is under way and every task has stored, it becomes the last
 -- complete one, the half-taken totals are emptied and none is under way."
 pub record Sealed (job : Job) (x : Run) (s : Stepped) : Type 0 where
-  pub all : AllStored job x → s ≡ record { run = withUnderWay false (withoutHalf (withLast (x .half) true x)); answer = 20 }
+  pub all : AllStored job x → s ≡ record { run = withUnderWay 0 (withoutHalf (withLast (x .half) true x)); answer = 20 }
   pub not-all : (AllStored job x → ⊥) → s ≡ record { run = x; answer = 0 }

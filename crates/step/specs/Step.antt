@@ -6,7 +6,7 @@
 --   64        begin a snapshot: 15
 --   65        cut: nothing but 1 to 9 and 16 refuses it
 --   66 on     11
-use mathlib.Core.Bool.{Bool, true, false, cond, not, _||_}
+use mathlib.Core.Bool.{Bool, false, cond, not, _||_}
 use mathlib.Core.List.{List}
 use Prim.Native.Nat.{ℕ, _+_, _-_}
 use lib.Dec.{eqb, ltb, leb}
@@ -25,7 +25,7 @@ use Rattle.job.specs.Columns.{recordAt}
 use Rattle.job.specs.Jobs.{aOf, bOf, toOf, isSource}
 use Rattle.run.specs.declared.Run.{Run}
 use Rattle.run.specs.Runs.{withChannels, withMarked, withWaiting, withLive, withoutHalf, withUnderWay}
-use Rattle.run.specs.Fit.{channelAt, totalsAt, flagAt}
+use Rattle.run.specs.Fit.{channelAt, totalsAt, flagAt, countAt}
 use Rattle.outputs.specs.Outputs.{someFull, sourcesWait}
 use Rattle.step.specs.Algorithm.{answered, completed, storedBy, barrierReceived, takenIn, recordReceived}
 use Rattle.step.specs.declared.Stepped.{Stepped}
@@ -68,15 +68,15 @@ sourceRead job c v run t =
 unfoldable pub barrierSent : Job → Run → ℕ → Stepped
 barrierSent job run t =
     cond (isNoSource job t) (answered 11 run)
-    (cond (not (flagAt (run .waiting) t)) (answered 13 run)
+    (cond (eqb (countAt (run .waiting) t) 0) (answered 13 run)
     (cond (someFull job (run .channels) t) (answered 14 run)
-    (completed job (storedBy job (withWaiting (set (run .waiting) t false) run) t))))
+    (completed job (storedBy job (withWaiting (set (run .waiting) t (countAt (run .waiting) t - 1)) run) t))))
 
 -- ---- 64: "every source gets a waiting barrier and earlier half-taken totals are cleared. Refusal: 15."
 unfoldable pub begun : Job → Run → Stepped
 begun job run =
-    cond (run .«under_way») (answered 15 run)
-    (answered 0 (withUnderWay true (withoutHalf (withWaiting (sourcesWait job (run .waiting)) run))))
+    cond (leb 1 (run .«under_way»)) (answered 15 run)
+    (answered 0 (withUnderWay 1 (withoutHalf (withWaiting (sourcesWait job (run .«under_way») (run .waiting)) run))))
 
 -- ---- 65: "Live totals become those of the last complete snapshot, or all zero if there is none. Channels, marks, waiting barriers and
 -- half-taken totals are emptied; no snapshot is under way; the last complete one stays."
@@ -85,9 +85,9 @@ lastOrNone run = cond (run .complete) (run .last) (replicate 16 noTotals)
 
 unfoldable pub cutOff : Run → Run
 cutOff run =
-    withUnderWay false
+    withUnderWay 0
     (withoutHalf
-    (withWaiting (replicate 16 false)
+    (withWaiting (replicate 16 0)
     (withMarked (replicate 32 false)
     (withChannels (replicate 32 emptyChannel)
     (withLive (lastOrNone run) run)))))

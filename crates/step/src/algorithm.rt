@@ -6,7 +6,7 @@ ghost use Rattle.tally.specs.Totals.{Room};
 ghost use Rattle.job.specs.Jobs.{JobSized};
 ghost use Rattle.job.specs.Fits.{Sends};
 ghost use Rattle.run.specs.Fit.{cargoFits, totalsAt, TotalsFit};
-ghost use Rattle.step.specs.Algorithm.{completed, storedBy, barrierReceived, takenIn, recordReceived};
+ghost use Rattle.step.specs.Algorithm.{completed, turnOf, storedBy, barrierReceived, takenIn, recordReceived};
 use crate::Stepped;
 use channel::Cargo;
 use channel::Channel;
@@ -21,16 +21,29 @@ pub fn complete(job: Job, mut run: Run) -> Stepped
     ensures { λ r. ⌜ r ≡ completed job run ⌝ }
 {
     let stored = run.stored;
-    if run.under_way & outputs::all_stored(job, stored) {
+    if (0 < run.under_way) & outputs::all_stored(job, stored) {
         let half = run.half;
         run.last = half;
         run.complete = true;
         run.half = [Totals::none(); 16];
-        run.stored = [false; 16];
-        run.under_way = false;
+        run.stored = [0; 16];
+        run.under_way = 0;
         return Stepped { run, answer: 20 };
     }
     Stepped { run, answer: 0 }
+}
+
+// Which of those under way a task stores next that has stored so many.
+fn turn(stored: u8, under: u8) -> u8
+    ensures { λ r. ⌜ (r ≡ turnOf stored under) × (r < 255) ⌝ }
+{
+    if stored < under {
+        return stored;
+    }
+    if under == 0 {
+        return 0;
+    }
+    under - 1
 }
 
 // The task stores its totals and puts a barrier on every output.
@@ -40,10 +53,11 @@ pub fn store(job: Job, mut run: Run, t: usize) -> Run
 {
     let state = run.live[t];
     run.half[t] = state;
-    run.stored[t] = true;
+    let next = turn(run.stored[t], run.under_way);
+    run.stored[t] = next + 1;
     let held = run.channels;
-    let next = outputs::put_all(job, t, Cargo::Barrier, held);
-    run.channels = next;
+    let put = outputs::put_all(job, t, Cargo::Barrier, held);
+    run.channels = put;
     run
 }
 

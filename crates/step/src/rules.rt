@@ -101,14 +101,15 @@ pub fn send_barrier(job: Job, mut run: Run, t: usize) -> Stepped
     if is_no_source(job, t) {
         return Stepped { run, answer: 11 };
     }
-    if !run.waiting[t] {
+    let waits = run.waiting[t];
+    if waits == 0 {
         return Stepped { run, answer: 13 };
     }
     let held = run.channels;
     if outputs::some_full(job, held, t) {
         return Stepped { run, answer: 14 };
     }
-    run.waiting[t] = false;
+    run.waiting[t] = waits - 1;
     let next = algorithm::store(job, run, t);
     algorithm::complete(job, next)
 }
@@ -118,15 +119,15 @@ pub fn begin(job: Job, mut run: Run) -> Stepped
     requires { ⌜ JobSized job ⌝ }
     ensures { λ r. ⌜ r ≡ begun job run ⌝ }
 {
-    if run.under_way {
+    if 1 <= run.under_way {
         return Stepped { run, answer: 15 };
     }
     let waiting = run.waiting;
-    let next = outputs::sources_wait(job, waiting);
+    let next = outputs::sources_wait(job, run.under_way, waiting);
     run.waiting = next;
     run.half = [Totals::none(); 16];
-    run.stored = [false; 16];
-    run.under_way = true;
+    run.stored = [0; 16];
+    run.under_way = 1;
     Stepped { run, answer: 0 }
 }
 

@@ -247,10 +247,10 @@ fn channels_from_elsewhere() {
 
 fn tasks_from_elsewhere() {
     let mut wait = station::fresh();
-    wait.waiting[2] = true;
+    wait.waiting[2] = 1;
     fit_of(b"waits-at-2", wait);
     let mut far = station::fresh();
-    far.stored[5] = true;
+    far.stored[5] = 1;
     fit_of(b"stored-5", far);
     let mut one = Totals::none();
     one.count = 1;
@@ -272,6 +272,23 @@ fn tasks_from_elsewhere() {
     low.least = -1;
     least.live[2] = low;
     fit_of(b"least-of-none", least);
+}
+
+// One snapshot at most is under way: two under way, two barriers waiting at a source, or a task that stored two do not fit.
+fn twos_from_elsewhere() {
+    let mut begun = station::fresh();
+    begun.under_way = 2;
+    fit_of(b"two-under-way", begun);
+    let mut wait = station::fresh();
+    wait.waiting[0] = 1;
+    fit_of(b"one-waits-at-0", wait);
+    wait.waiting[0] = 2;
+    fit_of(b"two-wait-at-0", wait);
+    let mut done = station::fresh();
+    done.stored[2] = 1;
+    fit_of(b"stored-once", done);
+    done.stored[2] = 2;
+    fit_of(b"stored-twice", done);
 }
 
 fn totals_at_2(name: &[u8], x: Totals) {
@@ -302,7 +319,7 @@ fn strays() {
     fit_of(b"stray-barrier", stray);
     drain_and_say(stray, 67108864);
     let mut stuck = station::fresh();
-    stuck.under_way = true;
+    stuck.under_way = 1;
     fit_of(b"under-way-alone", stuck);
     drain_and_say(stuck, 67108864);
 }
@@ -311,6 +328,7 @@ fn main() {
     worked();
     channels_from_elsewhere();
     tasks_from_elsewhere();
+    twos_from_elsewhere();
     totals_from_elsewhere();
     strays();
 }

@@ -2,8 +2,8 @@
 use borrow.Author.Needs.{needs}
 use native.Mathlib.Omega.{arith}
 use Prim.Native.Nat.{_≤_, _-_}
-use mathlib.Core.Path.{_≡_, refl, ap, ap₂, _∙_}
-use mathlib.Core.Bool.{false}
+use mathlib.Core.Path.{_≡_, refl, ap, _∙_}
+use lib.Dec.{ltb}
 use lib.ListN.{getD}
 use Rattle.job.specs.Tests.{every}
 use Rattle.job.proofs.Tests.{every-more}
@@ -12,7 +12,7 @@ use Rattle.outputs.proofs.all_stored.Statement.{statement}
 use Rattle.outputs.proofs.all_stored.Tie as tie
 
 abbrev Inv-loop : tie.InvT-loop
-Inv-loop stored n all₀ t₀ all t = (t ≤ n) × (all ≡ every (λ k. getD stored k false) t)
+Inv-loop stored n all₀ t₀ all t = (t ≤ n) × (all ≡ every (λ k. ltb 0 (getD stored k 0)) t)
 
 abbrev μ-loop : tie.MeasureT-loop
 μ-loop stored n all₀ t₀ all t = n - t

@@ -4,7 +4,6 @@ use mathlib.Core.Bool.{true, false}
 use native.Mathlib.Omega.{arith}
 use borrow.Author.Needs.{needs}
 use borrow.Author.Tests.{lt-ltb, le-ltb}
-use Prim.Native.Nat.{_<_}
 use lib.Dec.{ltb}
 use lib.IntN.{pos}
 use lib.ListN.{getD}
@@ -72,9 +71,9 @@ returns-2 c =
     let x : SFits w32 (getD (a .b .now) (t .result) (pos 0)) = record { sfits = c .before .before .before .acts-arg2 .given } in
     c .acts .ensures
     ∙ ap (λ z. actsBy (a .n) (ltb (t .result) (a .tasks)) (getD (a .kinds .now) (t .result) 0) z (a .received)
-    (getD (a .waiting .now) (t .result) false) (getD (a .full .now) (t .result) false)) (toZ-ofZ x)
+    (ltb 0 (getD (a .waiting .now) (t .result) 0)) (getD (a .full .now) (t .result) false)) (toZ-ofZ x)
     ∙ ap (λ k. actsBy (a .n) (ltb k (a .tasks)) (getD (a .kinds .now) k 0) (getD (a .b .now) k (pos 0)) (a .received)
-    (getD (a .waiting .now) k false) (getD (a .full .now) k false)) (t .ensures .0)
+    (ltb 0 (getD (a .waiting .now) k 0)) (getD (a .full .now) k false)) (t .ensures .0)
     ∙ sym (simp (le-ltb _ 32 (c .before .before .before .before .before .if1 .left)))
 
 pub is-possible-spec : {M : Type 1} → statement M

@@ -13,7 +13,8 @@ use Rattle.job.specs.Tests.{some}
 use Rattle.job.specs.Jobs.{kindOf, bOf}
 use Rattle.job.proofs.Bools.{both-true}
 use Rattle.job.proofs.Tests.{some-more}
-use Rattle.run.specs.Fit.{flagAt}
+use lib.Dec.{ltb}
+use Rattle.run.specs.Fit.{countAt}
 use Rattle.step.specs.Step.{offsetOf}
 use Rattle.drain.specs.Drains.{leftBy, taskLeft, tasksLeft}
 use Rattle.drain.proofs.left.tasks_left.Statement.{statement}
@@ -69,7 +70,7 @@ loop-again c =
     let run = b .args .t2 in
     let t = c .before .before .before .before .before .before .loop .t in
     let x : SFits w32 (bOf job t) = record { sfits = c .before .before .task-left-arg2 .given } in
-    let here = ap (λ b. leftBy (kindOf job t) b (offsetOf run t) (flagAt (run .waiting) t)) (toZ-ofZ x) in
+    let here = ap (λ b. leftBy (kindOf job t) b (offsetOf run t) (ltb 0 (countAt (run .waiting) t))) (toZ-ofZ x) in
     (omega arith, some-more _ _ (c .before .before .before .before .before .before .loop .inv .1) (c .task-left .ensures ∙ here))
 
 returns : tie.Need-returns Inv-loop μ-loop

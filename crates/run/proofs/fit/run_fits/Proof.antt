@@ -1,7 +1,5 @@
 -- `run::fit::run_fits` meets its contract.
 use Rattle.run.specs.Fit.{runFits}
-use mathlib.Core.Path.{ap₂}
-use mathlib.Core.Bool.{_&&_}
 use borrow.Author.Needs.{needs}
 use Rattle.run.proofs.fit.run_fits.Statement.{statement}
 use Rattle.run.proofs.fit.run_fits.Tie as tie
@@ -14,7 +12,7 @@ tasks-fit-requires c κs = search needs
 
 returns : tie.Need-returns
 unfolding runFits
-returns c = ap₂ _&&_ (c .before .channels-fit .ensures) (c .tasks-fit .ensures)
+returns c = simp (c .before .before .channels-fit .ensures, c .before .tasks-fit .ensures)
 
 pub run-fits-spec : {M : Type 1} → statement M
 run-fits-spec = tie.close (tie.spec channels-fit-requires tasks-fit-requires returns)

@@ -71,14 +71,14 @@ mul-last c = search needs
 element-copy-out-last : tie.Need-element-copy-out-last Inv-loop μ-loop
 element-copy-out-last c = search needs
 
-element-copy-out-flags-fit : tie.Need-element-copy-out-flags-fit Inv-loop μ-loop
-element-copy-out-flags-fit c = search needs
+element-copy-out-counts-fit : tie.Need-element-copy-out-counts-fit Inv-loop μ-loop
+element-copy-out-counts-fit c = search needs
 
-element-copy-out-flags-fit-2 : tie.Need-element-copy-out-flags-fit-2 Inv-loop μ-loop
-element-copy-out-flags-fit-2 c = search needs
+element-copy-out-counts-fit-2 : tie.Need-element-copy-out-counts-fit-2 Inv-loop μ-loop
+element-copy-out-counts-fit-2 c = search needs
 
-flags-fit-requires : tie.Need-flags-fit-requires Inv-loop μ-loop
-flags-fit-requires c κs = search needs
+counts-fit-requires : tie.Need-counts-fit-requires Inv-loop μ-loop
+counts-fit-requires c κs = search needs
 
 totals-fit-requires : tie.Need-totals-fit-requires Inv-loop μ-loop
 totals-fit-requires c κs = limit-small (c .before .before .before .before .before .before)
@@ -100,7 +100,13 @@ unfolding taskFits
 loop-again c = (
   search needs,
   every-more _ _ (c .before .before .before .before .before .before .before .before .before .before .before .before .before .loop .inv .1)
-      (simp (c .before .before .before .flags-fit .ensures, c .before .before .totals-fit .ensures, c .before .totals-fit2 .ensures, c .totals-fit3 .ensures, limit-is (c .before .before .before .before .before .before .before .before .before))),
+      (simp (
+        c .before .before .before .counts-fit .ensures,
+        c .before .before .totals-fit .ensures,
+        c .before .totals-fit2 .ensures,
+        c .totals-fit3 .ensures,
+        limit-is (c .before .before .before .before .before .before .before .before .before),
+      )),
 )
 
 returns : tie.Need-returns Inv-loop μ-loop
@@ -124,9 +130,9 @@ tasks-fit-spec =
     element-copy-out-half
     mul-last
     element-copy-out-last
-    element-copy-out-flags-fit
-    element-copy-out-flags-fit-2
-    flags-fit-requires
+    element-copy-out-counts-fit
+    element-copy-out-counts-fit-2
+    counts-fit-requires
     totals-fit-requires
     totals-fit-requires-2
     totals-fit-requires-3

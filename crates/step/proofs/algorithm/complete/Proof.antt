@@ -14,13 +14,13 @@ returns : tie.Need-returns
 unfolding completed
 returns c =
     simp (
-      rw (c .before .before .before .before .before .before .all-stored .ensures) at (c .before .before .before .before .if1 .taken),
+      rw (c .before .before .before .before .before .all-stored .ensures) at (c .before .before .before .before .if1 .taken),
       c .before .before .none .ensures,
     )
 
 returns-2 : tie.Need-returns-2
 unfolding completed
-returns-2 c = simp (rw (c .before .before .all-stored .ensures) at (c .if1 .left))
+returns-2 c = simp (rw (c .before .all-stored .ensures) at (c .if1 .left))
 
 pub complete-spec : {M : Type 1} → statement M
 complete-spec = tie.close (tie.spec all-stored-requires none-requires returns returns-2)

@@ -1,8 +1,8 @@
 -- `step::rules::send_barrier` meets its contract.
 use mathlib.Core.Path.{_∙_, sym}
-use mathlib.Core.Bool.{not}
 use Rattle.step.specs.Step.{barrierSent}
 use borrow.Author.Needs.{needs}
+use borrow.Author.Tests.{ne-eqb}
 use Rattle.step.proofs.rules.send_barrier.Statement.{statement}
 use Rattle.step.proofs.rules.send_barrier.Tie as tie
 
@@ -13,8 +13,8 @@ returns : tie.Need-returns
 unfolding barrierSent
 returns c = simp (sym (c .before .is-no-source .ensures) ∙ c .if1 .taken)
 
-element-copy-out-if2 : tie.Need-element-copy-out-if2
-element-copy-out-if2 c = search needs
+element-copy-out-waits : tie.Need-element-copy-out-waits
+element-copy-out-waits c = search needs
 
 returns-2 : tie.Need-returns-2
 unfolding barrierSent
@@ -28,9 +28,12 @@ unfolding barrierSent
 returns-3 c =
     simp (
       sym (c .before .before .before .before .before .before .is-no-source .ensures) ∙ c .before .before .before .before .before .if1 .left,
-      c .before .before .before .if2 .left,
+      ne-eqb _ _ (c .before .before .before .if2 .left),
       sym (c .before .some-full .ensures) ∙ c .if3 .taken,
     )
+
+sub-run : tie.Need-sub-run
+sub-run c = search needs
 
 element-write-run : tie.Need-element-write-run
 element-write-run c = search needs
@@ -47,7 +50,7 @@ returns-4 c =
     c .complete .ensures
     ∙ simp (
       sym (c .before .before .before .before .before .before .before .before .is-no-source .ensures) ∙ c .before .before .before .before .before .before .before .if1 .left,
-      c .before .before .before .before .before .if2 .left,
+      ne-eqb _ _ (c .before .before .before .before .before .if2 .left),
       sym (c .before .before .before .some-full .ensures) ∙ c .before .before .if3 .left,
       c .before .store .ensures,
     )
@@ -58,10 +61,11 @@ send-barrier-spec =
     (tie.spec
     is-no-source-requires
     returns
-    element-copy-out-if2
+    element-copy-out-waits
     returns-2
     some-full-requires
     returns-3
+    sub-run
     element-write-run
     store-requires
     complete-requires
