@@ -2,7 +2,7 @@
 -- nothing under way it says that the total is direct evaluation's.
 use mathlib.Core.Path.{_≡_, sym, ap, ap₂, _∙_}
 use mathlib.Core.List.{List, [], _∷_}
-use Prim.Native.Nat.{ℕ, _+_, _<_, _≤_}
+use Prim.Native.Nat.{ℕ, _<_, _≤_}
 use native.Mathlib.Omega.{arith}
 use lib.Dec.{eqb}
 use borrow.Author.Tests.{eq-eqb}
@@ -25,13 +25,6 @@ module _ {R : Type 0} (g : Graph R) (G : Measured g) (M : CMon) (φ : R → M .C
   pushes : Pushes M g (worthTo g M φ u) δ
   unfolding worthTo δ
   pushes t r l = push-all g M G φ u t r l
-
-  -- nothing read, nothing under way
-  pub balance-fresh : (pend reads : ℕ → List R) → ((c : ℕ) → c < m → pend c ≡ [])
-      → ((t : ℕ) → t < n → reads t ≡ []) → Balance g M φ u ε pend reads
-  unfolding Balance
-  balance-fresh pend reads p q =
-      unit-l _ ∙ worth-nil M m (λ c. worthTo g M φ u (to c)) pend p ∙ sym (worth-nil M n (worthTo g M φ u) reads q)
 
   -- nothing under way: the total is direct evaluation's
   pub balance-final : (tot : Car) (pend reads : ℕ → List R) → Balance g M φ u tot pend reads

@@ -3,10 +3,10 @@ use mathlib.Core.Path.{_≡_, refl, sym, ap, ap₂, _∙_}
 use mathlib.Core.Bool.{Bool, true, false, cond, true≢false, false≢true}
 use mathlib.Core.List.{List, [], _∷_, _++_}
 use mathlib.Core.Logic.{_⊎_, inl, inr}
-use Prim.Native.Nat.{ℕ, zero, suc, _+_, _-_, _<_, _≤_}
+use Prim.Native.Nat.{ℕ, zero, suc, _-_, _<_, _≤_}
 use native.Mathlib.Omega.{arith}
 use lib.Dec.{eqb, ltb}
-use lib.ListN.{length, getD}
+use lib.ListN.{length}
 use borrow.Author.Tests.{eq-eqb, ne-eqb, eqb-true, eqb-false, lt-ltb, le-ltb, ltb-true, ltb-false}
 use Rattle.laws.specs.Below.{bit, both, either, allN, anyN, tab}
 
@@ -28,14 +28,6 @@ ltb-up i st h = go (ltb (suc i) st) refl
 pub bit-one : (b : Bool) → bit b ≤ 1
 bit-one true = omega arith
 bit-one false = omega arith
-
-pub bit-pos : (b : Bool) → 0 < bit b → b ≡ true
-bit-pos true h = refl
-bit-pos false h = absurd (omega arith)
-
-pub bit-zero : (b : Bool) → bit b ≡ 0 → b ≡ false
-bit-zero true h = absurd (omega arith)
-bit-zero false h = refl
 
 pub all-true : (n : ℕ) (b : ℕ → Bool) → allN n b ≡ true → (i : ℕ) → i < n → b i ≡ true
 all-true zero b h i l = absurd (omega arith)
@@ -128,21 +120,6 @@ pub open-edge : (b x : Bool) → cond b false x ≡ true → (b ≡ false) × (x
 open-edge true x e = absurd (false≢true e)
 open-edge false x e = (refl, e)
 
--- ---- flags as numbers
-pub flag-blocked : (a b : Bool) → ltb (bit a) (bit a + bit b) ≡ b
-flag-blocked true true = refl
-flag-blocked true false = refl
-flag-blocked false true = refl
-flag-blocked false false = refl
-
-pub flag-some : (b : Bool) → ltb 0 (bit b) ≡ b
-flag-some true = refl
-flag-some false = refl
-
-pub flag-off : (b : Bool) → bit b < 1 → b ≡ false
-flag-off true h = absurd (omega arith)
-flag-off false h = refl
-
 pub all-ext : (n : ℕ) (f g : ℕ → Bool) → ((i : ℕ) → i < n → f i ≡ g i) → allN n f ≡ allN n g
 all-ext zero f g h = refl
 all-ext (suc n) f g h = ap₂ (λ x y. cond x y false) (h n (omega arith)) (all-ext n f g (λ i l. h i (omega arith)))
@@ -150,10 +127,6 @@ all-ext (suc n) f g h = ap₂ (λ x y. cond x y false) (h n (omega arith)) (all-
 pub all-yes : (n : ℕ) → allN n (λ i. true) ≡ true
 all-yes zero = refl
 all-yes (suc n) = all-yes n
-
-pub and-true : (b : Bool) → cond b true false ≡ b
-and-true true = refl
-and-true false = refl
 
 -- ---- choices
 pub cond-same : {A : Type 0} (b : Bool) (x : A) → cond b x x ≡ x
@@ -180,9 +153,3 @@ module _ {A : Type 0} where
   pub length-tab : (n : ℕ) (f : ℕ → A) → length (tab n f) ≡ n
   length-tab zero f = refl
   length-tab (suc n) f = ap suc (length-tab n (λ i. f (suc i)))
-
-  -- read back, with a default that f has from n on
-  pub getD-tab : (n : ℕ) (f : ℕ → A) (d : A) → ((i : ℕ) → n ≤ i → f i ≡ d) → (i : ℕ) → getD (tab n f) i d ≡ f i
-  getD-tab zero f d h i = sym (h i (omega arith))
-  getD-tab (suc n) f d h zero = refl
-  getD-tab (suc n) f d h (suc i) = getD-tab n (λ j. f (suc j)) d (λ j l. h (suc j) (omega arith)) i

@@ -1,6 +1,6 @@
 -- The laws of the theory, each file from those above it.
 --   sums and values
---     Below        laws of the small things; tables read back (`getD-tab`)
+--     Below        laws of the small things
 --     Sums         laws of sums in a commutative monoid, and of maps between monoids
 --     Each         a property of every element of a list
 --     Value        a record's value: linearity (`sum-received`), the push equation (`push-all`)
@@ -13,10 +13,9 @@
 --     Seen, Views, Deliver   each part of a step keeps the law of conservation in every snapshot's view
 --     Moves        every step keeps request h's rule of fit (`step-fits`) and what a grown run has (`step-good`)
 --     Search, Progress       no deadlock without back channels (`progress`)
---     StepsLeft    every step takes one from the steps left (`step-left`); a drain ends (`drain-ends`)
+--     StepsLeft    every step takes one from the steps left (`step-left`)
 --     Did          the one walk through the step by its number (`did`)
 --     Step         the step by its number is the relation (`step-ok`, `step-possible`); 17 only at the bound (`never-17`)
---     Keeps        one induction for every invariant of the step; no channel passes 8 items (`short-keeps`)
 --   promises
 --     Grown        grown runs are good; their last snapshot is direct evaluation's (`snapshot-direct`)
 --     Drain        what a drain leaves (`drain-all`, `drained-direct`, `zero-direct`), and that 19 is silent (`never-19`)
@@ -25,9 +24,6 @@
 --     Offsets      the offsets are those noted by the onlooker (`offsets-noted`)
 --     History      records sent are records taken and held (`sent-taken`)
 --     Promise      THE PROMISES for an accepted job, in one place
---   the base
---     One, Base    the base's step is the theory's (`step-is`), and so is a list of steps (`exec-is`)
---     ListRun      a run of lists is the run that it was made from (`one-listed`); the loop of stores (`puts-at`)
 --   requests
 --     Numbers      request h: numbers and places go through each part of a step
 --     Rounds, RoundSums      request n: the measure of round and rank; task and round, summed (`summed`, `worst-summed`)
@@ -54,7 +50,6 @@ pub mod Progress
 pub mod StepsLeft
 pub mod Did
 pub mod Step
-pub mod Keeps
 pub mod Grown
 pub mod Drain
 pub mod Account
@@ -62,9 +57,6 @@ pub mod Bound
 pub mod Offsets
 pub mod History
 pub mod Promise
-pub mod One
-pub mod Base
-pub mod ListRun
 pub mod Numbers
 pub mod Rounds
 pub mod RoundSums

@@ -9,7 +9,7 @@ use borrow.Author.Tests.{eq-eqb, ne-eqb, eqb-true, eqb-false, ltb-true, ltb-fals
 use Rattle.laws.specs.Received.{keep, Graph}
 use Rattle.laws.specs.Sums.{CMon}
 use Rattle.laws.specs.Items.{Item, barrier, rec, bars, asItems}
-use Rattle.laws.specs.Run.{Run, Job, put, pop, readS, deliverS, markS, storeS, beginS, finishS, cutS}
+use Rattle.laws.specs.Run.{Run, Job, put, pop, readS, deliverS, markS, storeS, finishS}
 use Rattle.laws.specs.Invariant.{Inv}
 use Rattle.laws.specs.Numbers.{Numbered, numBar, numRec, label, numRecs, numbered, taken}
 
@@ -30,14 +30,7 @@ module _ (J : Job) where
   open Graph g using (m, from, to, sends)
   open CMon M using (Car)
 
-  -- the barrier at the head of d has the number that the to-task stores next, where d is not a back channel
-  pub head-number : (first : ℕ) (s : Run R Car) (d : ℕ) (rest : List (Item R)) → s .gone d ≡ s .stored (to d)
-      → s .chan d ≡ barrier ∷ rest
-      → numbered first s d ≡ numBar ((first + s .stored (to d)) % 4) ∷ label (suc (first + s .gone d)) rest
-  head-number first s d rest e hd =
-      ap (label (first + s .gone d)) hd ∙ ap (λ k. numBar ((first + k) % 4) ∷ label (suc (first + s .gone d)) rest) e
-
-  -- and once it is taken, the next one has the next number
+  -- once the barrier at the head of d is taken, the next one has the next number
   pub head-taken : (first : ℕ) (s : Run R Car) (d : ℕ) (rest : List (Item R)) → s .chan d ≡ barrier ∷ rest
       → numbered first (markS J s d) d ≡ label (suc (first + s .gone d)) rest
   head-taken first s d rest hd =
@@ -80,17 +73,11 @@ module _ (J : Job) where
       ≡ label (first + s .gone c) (pop J (s .chan) d c) ++ keep (eqb (from c) (to d)) (numRecs (sends c r))
   deliver-number first s d r c = put-number (first + s .gone c) (pop J (s .chan) d) (to d) r c
 
-  -- begin: no channel changes. The oldest complete: the numbers stay, and the next is the oldest. A cut: no number is left
-  pub begin-number : (first : ℕ) (s : Run R Car) (c : ℕ) → numbered first (beginS J s) c ≡ numbered first s c
-  begin-number first s c = refl
-
+  -- the oldest is complete: the numbers stay, and the next is the oldest
   pub finish-number : (first : ℕ) (s : Run R Car) (c : ℕ) → 0 < s .gone c
       → numbered (suc first) (finishS J s) c ≡ numbered first s c
   finish-number first s c h = let z : suc first + (s .gone c - 1) ≡ first + s .gone c = omega arith in
       ap (λ k. label k (s .chan c)) z
-
-  pub cut-number : (s : Run R Car) (c : ℕ) → numbered 0 (cutS J s) c ≡ numRecs (s .lastLog c)
-  cut-number s c = label-asItems 0 (s .lastLog c)
 
 -- ---- the four places
 place-eq : (f i j : ℕ) → i < 4 → j < 4 → eqb ((f + i) % 4) ((f + j) % 4) ≡ eqb i j

@@ -239,10 +239,3 @@ module _ (J : Job) where
 
   pub none-of : (s : Run R Car) → someLeft J s ≡ false → ¬ Left J s
   none-of s e h = true≢false (sym (left-is s h) ∙ e)
-
-  pub left-dec : (s : Run R Car) → Dec (Left J s)
-  left-dec s = go (someLeft J s) refl
-    where
-      go : (b : Bool) → someLeft J s ≡ b → Dec (Left J s)
-      go true e = yes (left-of s e)
-      go false e = no (none-of s e)

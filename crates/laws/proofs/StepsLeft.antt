@@ -1,9 +1,9 @@
--- Every step of 0 to 63 takes exactly one from the steps left (`step-left`), and nothing is left where that number is 0. So a drain
--- ends, and its length is known beforehand (`drain-ends`).
+-- Every step of 0 to 63 takes exactly one from the steps left (`step-left`), and where nothing is left that number is 0 (`left-none`). So a
+-- drain ends, and its length is known beforehand (Drain, Account).
 use mathlib.Core.Path.{_≡_, refl, sym, ap, ap₂, _∙_, subst}
 use mathlib.Core.Bool.{Bool, true, false, cond, true≢false, false≢true}
 use mathlib.Core.List.{List, [], _∷_}
-use Prim.Native.Nat.{ℕ, zero, suc, _+_, _-_, _<_, _≤_}
+use Prim.Native.Nat.{ℕ, suc, _+_, _-_, _<_}
 use native.Mathlib.Omega.{arith}
 use lib.Dec.{eqb}
 use lib.ListN.{length, drop, drop-of-length-le}
@@ -15,10 +15,10 @@ use Rattle.laws.specs.Sums.{CMon, pick, sumN, sumL, natMon}
 use Rattle.laws.specs.Acyclic.{Measured}
 use Rattle.laws.specs.Value.{val, worth, flow}
 use Rattle.laws.specs.Items.{Item, barrier, rec, recs}
-use Rattle.laws.specs.Run.{Run, Job, Plain, pop, readS, deliverS, markS, storeS, finishS}
+use Rattle.laws.specs.Run.{Run, Job, pop, readS, deliverS, markS, storeS, finishS}
 use Rattle.laws.specs.Invariant.{Order, Good}
 use Rattle.laws.specs.Moves.{whole, settle, Next, Step, read, deliver, marks, completes, returns, sends-bar, Left, left-snap}
-use Rattle.laws.specs.Moves.{left-item, left-part, Steps, stop, step}
+use Rattle.laws.specs.Moves.{left-item, left-part}
 use Rattle.laws.specs.StepsLeft.{steps, work, waitsAt, awaitsAt, barriers, left}
 use Rattle.laws.proofs.Below.{eqb-sym, same-place}
 use Rattle.laws.proofs.Sums.{sum-ext, sum-op, sum-unit, sum-swap, sum-pick, sum-at′, sumL-sum, sum-down}
@@ -28,8 +28,7 @@ use Rattle.laws.proofs.Items.{recs-pop, recs-mark, recs-bar, recs-none}
 use Rattle.laws.proofs.Parts.{drop-grow}
 use Rattle.laws.proofs.Order.{mark-order}
 use Rattle.laws.proofs.Views.{put-recs}
-use Rattle.laws.proofs.Moves.{whole-gone, bar-more, complete-order, send-order, step-good}
-use Rattle.laws.proofs.Progress.{progress, left-dec}
+use Rattle.laws.proofs.Moves.{whole-gone, bar-more, complete-order, send-order}
 
 module _ {R : Type 0} (g : Graph R) (G : Measured g) where
   open Graph g using (n, m, from, to, sends, depth)
@@ -216,29 +215,3 @@ module _ (J : Job) where
       no-wait : (t : ℕ) → t < n → (b : Bool) → src t ≡ b → cond b (s .wait t) 0 ≡ 0
       no-wait t l true e = omega (arith, K .inv .order .wait-eq t l e, off)
       no-wait t l false e = refl
-
-  pub steps-good : {k : ℕ} {s s′ : Run R Car} → Good J s → Steps J k s s′ → Good J s′
-  steps-good K stop = K
-  steps-good K (step {s} {s₁} p q) = steps-good (step-good J s s₁ K p) q
-
-  -- any steps that leave nothing left are exactly as many as were left
-  pub drain-length : {k : ℕ} {s s′ : Run R Car} → Good J s → Steps J k s s′ → ¬ Left J s′ → k ≡ left J s
-  drain-length K (stop {s}) h = sym (left-none s K h)
-  drain-length K (step {s} {s₁} p q) h = omega (arith, step-left s s₁ K p, drain-length (step-good J s s₁ K p) q h)
-
-  -- A DRAIN ENDS: as long as something is left there is a step, and there are no more steps than were left
-  drain : Plain J → (k : ℕ) (s : Run R Car) → Good J s → left J s ≤ k → Dec (Left J s)
-      → (j : ℕ) × (s′ : Run R Car) × Steps J j s s′ × (¬ Left J s′)
-  drain P zero s K h (no z) = (0, s, stop, z)
-  drain P zero s K h (yes z) = let p = progress J P s K z in absurd (omega (arith, step-left s (p .0) K (p .1)))
-  drain P (suc k) s K h (no z) = (0, s, stop, z)
-  drain P (suc k) s K h (yes z) =
-      let p = progress J P s K z in
-      let q = drain P k (p .0) (step-good J s (p .0) K (p .1)) (omega (arith, step-left s (p .0) K (p .1)))
-      (left-dec J (p .0)) in
-      (suc (q .0), q .1, step (p .1) (q .2), q .3)
-
-  pub drain-ends : Plain J → (s : Run R Car) → Good J s → (s′ : Run R Car) × Steps J (left J s) s s′ × (¬ Left J s′)
-  drain-ends P s K =
-      let q = drain P (left J s) s K (omega arith) (left-dec J s) in
-      (q .1, subst (λ k. Steps J k s (q .1)) (drain-length K (q .2) (q .3)) (q .2), q .3)

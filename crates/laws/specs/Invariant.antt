@@ -7,7 +7,7 @@ use mathlib.Core.List.{List, [], _++_}
 use mathlib.Core.Logic.{_⊎_}
 use Prim.Native.Nat.{ℕ, suc, _+_, _-_, _<_, _≤_}
 use lib.Dec.{ltb}
-use lib.ListN.{length, take}
+use lib.ListN.{take}
 use Rattle.laws.specs.Received.{Graph, received}
 use Rattle.laws.specs.Sums.{CMon, sumL}
 use Rattle.laws.specs.Value.{Balance}
@@ -87,7 +87,3 @@ module _ (J : Job) where
     pub awaits : Awaits s
     pub unfin : 0 < s .going → Behind 0 s
     pub few : s .going ≤ cap
-
-  -- no channel passes 8 items, restored records apart
-  abbrev pub Short : Run R Car → Type 0
-  Short s = (c : ℕ) → c < m → length (s .chan c) ≤ 8 + s .front c

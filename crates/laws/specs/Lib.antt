@@ -19,9 +19,6 @@
 --     Drain        the drain as a function
 --     Onlooker     what an onlooker notes of offsets, and of records sent and taken
 --     Accepted     worst counts, and what an accepted job has
---   the base
---     One, Base    the base's run of flags, document 01's step over it, and how it is read as a run of the theory
---     ListRun      a run held in lists, read as the base's run
 --   requests
 --     Numbers      request h: numbers on barriers, and the four places for half-taken totals
 --     Rounds       request n: records with rounds; direct evaluation and worst count over task and round
@@ -41,9 +38,6 @@ pub mod StepsLeft
 pub mod Drain
 pub mod Onlooker
 pub mod Accepted
-pub mod One
-pub mod Base
-pub mod ListRun
 pub mod Numbers
 pub mod Rounds
 pub mod Restored

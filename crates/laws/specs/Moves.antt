@@ -63,11 +63,6 @@ module _ (J : Job) where
     left-part : (t : ℕ) → t < n → src t ≡ true → s .off t < length (part t) → Left s
     left-wait : (t : ℕ) → t < n → src t ≡ true → 0 < s .wait t → Left s
 
-  -- k steps, one after the other
-  pub data Steps : ℕ → Run R Car → Run R Car → Type 0 where
-    stop : {s : Run R Car} → Steps 0 s s
-    step : {k : ℕ} {s s₁ s₂ : Run R Car} → Step s s₁ → Steps k s₁ s₂ → Steps (suc k) s s₂
-
   -- steps of which none reads
   pub data Quiet : Run R Car → Run R Car → Type 0 where
     rests : {s : Run R Car} → Quiet s s
