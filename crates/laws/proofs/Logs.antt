@@ -1,7 +1,6 @@
 -- REQUEST n, the snapshot: totals with logs. The logs are what is pending (`last-logged`); restored, and delivered with no read
 -- until nothing is held, they give direct evaluation at the snapshot's offsets (`restored-direct`).
 use mathlib.Core.Path.{_≡_, refl, ap, _∙_}
-use mathlib.Core.Bool.{Bool, true, false, cond}
 use mathlib.Core.List.{List, []}
 use Prim.Native.Nat.{ℕ, _<_}
 use lib.ListN.{take}
@@ -9,9 +8,9 @@ use Rattle.laws.specs.Received.{Graph, received}
 use Rattle.laws.specs.Sums.{CMon, sumL}
 use Rattle.laws.specs.Value.{val, worth}
 use Rattle.laws.specs.Items.{recs}
-use Rattle.laws.specs.Run.{Run, Job, markS, storeS, finishS, cutS}
+use Rattle.laws.specs.Run.{Run, Job, cutS}
 use Rattle.laws.specs.Invariant.{directAt, Inv, Good}
-use Rattle.laws.specs.Moves.{whole, settle, Quiet, rests, moves}
+use Rattle.laws.specs.Moves.{Quiet, rests, moves}
 use Rattle.laws.proofs.Balance.{balance-direct}
 use Rattle.laws.proofs.Views.{live-direct}
 use Rattle.laws.proofs.Moves.{step-good, cut-good}
@@ -40,17 +39,3 @@ module _ (J : Job) where
       → ((c : ℕ) → c < m → recs (s′ .chan c) ≡ []) → (u : ℕ) → u < n → s′ .live u ≡ directAt J (s .lastOff) u
   restored-direct s s′ K q e u lu = live-direct J s′ (quiet-good (cut-good J s K) q .inv) e u lu
       ∙ ap (λ (E : ℕ → List R). sumL M φ (received g depth E u)) (λ i t. take (quiet-off q t i) (part t))
-
-  -- every step but a read is such a step: a store or a return reads nothing
-  settle-off : (s : Run R Car) (b : Bool) (t : ℕ) → (cond b (finishS J s) s) .off t ≡ s .off t
-  settle-off s true t = refl
-  settle-off s false t = refl
-
-  pub completes-quiet : (s : Run R Car) (d t : ℕ) → (settle J (storeS J (markS J s d) (to d))) .off t ≡ s .off t
-  completes-quiet s d t = settle-off (storeS J (markS J s d) (to d)) (whole J (storeS J (markS J s d) (to d))) t
-
-  pub returns-quiet : (s : Run R Car) (d t : ℕ) → (settle J (markS J s d)) .off t ≡ s .off t
-  returns-quiet s d t = settle-off (markS J s d) (whole J (markS J s d)) t
-
-  pub sends-quiet : (s : Run R Car) (v t : ℕ) → (settle J (storeS J s v)) .off t ≡ s .off t
-  sends-quiet s v t = settle-off (storeS J s v) (whole J (storeS J s v)) t
