@@ -1,6 +1,7 @@
 -- A task's outputs and inputs, as the step rules speak of them: "some output channel of the task holds 8 items", "all inputs of the task
 -- are marked", "every task has stored", and what a barrier or a received record puts on every output.
-use mathlib.Core.Bool.{Bool, false, cond, not, _&&_, _||_}
+use mathlib.Core.Path.{_≡_, refl}
+use mathlib.Core.Bool.{Bool, true, false, cond, not, _&&_, _||_}
 use mathlib.Core.List.{List}
 use Prim.Native.Nat.{ℕ, zero, suc, _+_}
 use lib.Dec.{ltb, leb}
@@ -42,12 +43,15 @@ module _ {A : Type 0} where
 unfoldable pub unmarked : Job → List Bool → ℕ → List Bool
 unmarked job marked t = eachPlace false (λ c mark. mark && not (isInput job t c)) marked (job .channels)
 
--- "every source gets a waiting barrier", beside those that wait there, which are at most the n under way
+-- "every source gets a waiting barrier". Of those that waited no more stay than the n under way: with none under way, one waits then
 abbrev pub atMostOf : ℕ → ℕ → ℕ
 atMostOf n x = cond (ltb n x) n x
 
 abbrev pub oneMoreWaits : ℕ → Bool → ℕ → ℕ
 oneMoreWaits n source waits = cond source (atMostOf n waits + 1) waits
+
+pub one-waits : (oneMoreWaits 0 true 0 ≡ 1) × (oneMoreWaits 0 true 1 ≡ 1) × (oneMoreWaits 0 false 1 ≡ 1) × (oneMoreWaits 2 true 2 ≡ 3)
+one-waits = (refl, refl, refl, refl)
 
 unfoldable pub sourcesWait : Job → ℕ → List ℕ → List ℕ
 sourcesWait job n waiting = eachPlace 0 (λ t waits. oneMoreWaits n (isSource job t) waits) waiting (job .tasks)

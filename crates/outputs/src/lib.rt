@@ -78,7 +78,7 @@ fn at_most_of(n: u8, x: u8) -> u8
     x
 }
 
-// At a source one barrier waits besides those of the `n` under way.
+// At a source one barrier more waits, and of those that waited no more than the `n` under way.
 fn one_more_waits(n: u8, source: bool, waits: u8) -> u8
     requires { ⌜ n < 255 ⌝ }
     ensures { λ r. ⌜ r ≡ oneMoreWaits n source waits ⌝ }

@@ -1,5 +1,5 @@
--- The tests of the step rules, read: an output that holds 8 items, inputs that are all marked, tasks that have all stored, and a place of
--- the run's totals and flags after a store.
+-- The tests of the step rules, read: an output that holds 8 items, inputs that are all marked, tasks that have all stored; a place of the
+-- run's totals after a record; and what the fit and the order of barriers say of every place.
 use mathlib.Core.Path.{_≡_, refl, sym, ap, ap₂, _∙_}
 use mathlib.Core.Bool.{Bool, true, false, cond, not, _&&_, _||_, false≢true}
 use mathlib.Core.List.{List, [], _∷_}

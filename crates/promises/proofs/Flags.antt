@@ -1,5 +1,5 @@
--- What an answer 20 says of a run's two flags, and nothing but it: the last complete snapshot is there after a 20 or where it was there
--- before, and of the steps 0 to 63 a 20 alone ends a snapshot that is under way (`step-flags`).
+-- What an answer 20 says of whether a snapshot is complete and of how many are under way, and nothing but it: the last complete snapshot is
+-- there after a 20 or where it was there before, and of the steps 0 to 63 a 20 alone ends a snapshot that is under way (`step-flags`).
 use mathlib.Core.Path.{_≡_, refl, sym, ap, _∙_}
 use mathlib.Core.Bool.{Bool, true, false, _&&_, _||_, cond}
 use mathlib.Core.List.{List}
@@ -24,7 +24,7 @@ use Rattle.step.specs.Algorithm.{answered, completed, storedBy, barrierReceived
 use Rattle.step.specs.Step.{withCargo, withTaken, delivered, isNoSource, offsetOf, sourceRead, barrierSent, begun, cutOff, stepped}
 use Rattle.step.proofs.Fitting.{cond-has}
 
--- the flags after a step of 0 to 63
+-- the two after a step of 0 to 63
 pub record Flags (run : Run) (s : Stepped) : Type 0 where
   pub complete : s .run .complete ≡ run .complete || eqb (s .answer) 20
   pub under-way : s .run .«under_way» ≡ cond (eqb (s .answer) 20) 0 (run .«under_way»)
@@ -38,7 +38,7 @@ or-true true = refl
 or-true false = refl
 
 module _ (run : Run) where
-  -- a run with the flags of `run`, answered with another number
+  -- a run where the two are those of `run`, answered with another number
   pub same-flags : (next : Run) (a : ℕ) → next .complete ≡ run .complete → next .«under_way» ≡ run .«under_way» → (a ≡ 20 → ⊥)
       → Flags run (answered a next)
   same-flags next a p q ne = record {

@@ -16,7 +16,7 @@
 --     Sent        5: conservation
 --     Silenced    1 and 6: grown runs fit; 16, 17 and 19 are silent
 --     Promised    THE PROMISES of grown runs, in one place
---     Watched     the worked station as the onlooker sees it, computed
+--     Onlooker    the worked station as the onlooker sees it, computed, with a second snapshot and with a cut
 --     Queued      the run's channels: a head taken, what is put on the outputs
 --     Conditions  the conditions of demands 1 and 2, the tests of the step rules, and when a call is admitted
 --     InOrder     a list of steps is its steps, one call after another
@@ -42,7 +42,7 @@ pub mod Formula
 pub mod Sent
 pub mod Silenced
 pub mod Promised
-pub mod Watched
+pub mod Onlooker
 pub mod Queued
 pub mod Conditions
 pub mod InOrder

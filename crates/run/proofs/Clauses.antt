@@ -1,5 +1,5 @@
--- THE FIT, EXACTLY: the test that the code computes answers true exactly when every clause of document 01's sentence holds (`fits-exact`),
--- for any run whatever.
+-- THE FIT, EXACTLY: the test that the code computes answers true exactly when every clause of `Fits` holds (`fits-exact`), for any run
+-- whatever.
 use mathlib.Core.Path.{_≡_, refl, sym, ap, ap₂, _∙_, subst}
 use mathlib.Core.Bool.{Bool, true, false, cond, not, _&&_, _||_, true≢false, false≢true}
 use mathlib.Core.Logic.{_↔_}

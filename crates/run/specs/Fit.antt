@@ -1,9 +1,10 @@
--- The fit of a run (document 01, answer 16), clause by clause in the document's order (`Fits`):
+-- The fit of a run (document 01, answer 16), clause by clause (`Fits`): first those of the document's sentence, in its order,
 --   "It fits when every channel holds at most 8 items with cylinders 1 to 20; things are held only for tasks and channels that the job
 --    has; a barrier waits only at sources; and in the live, half-taken and last complete totals each count is at most 1,048,576, a
 --    source's count at most its b, the sum between -2^31 and 2^31 - 1 times the count, and least and greatest 0 where the count is 0."
+-- then what the run's type leaves open: "Not covered: .. more than one snapshot under way".
 -- Below it stands the test that the code computes (`runFits`), place by place; that the two agree, both ways and for any run whatever, is
--- `fits-exact` in proofs/Clauses.antt. The rules on totals are asked of all three sets, whatever the flags say.
+-- `fits-exact` in proofs/Clauses.antt. The rules on totals are asked of all three sets, whatever else the run says.
 use mathlib.Core.Path.{_≡_}
 use mathlib.Core.Bool.{Bool, true, false, cond, not, _&&_, _||_}
 use mathlib.Core.List.{List}
@@ -85,7 +86,7 @@ pub record Fits (job : Job) (run : Run) : Type 0 where
   -- "a barrier waits only at sources"
   pub waits : (t : ℕ) → t < job .tasks → 0 < countAt (run .waiting) t → isSource job t ≡ true
   pub totals : (t : ℕ) → t < job .tasks → TaskFits job run t
-  -- one snapshot at most is under way, so one at most is stored by a task or waits at it
+  -- "Not covered: .. more than one snapshot under way": so a task has stored one at most, and one barrier at most waits at it
   pub few : run .«under_way» ≤ 1
   pub counts : (t : ℕ) → t < 16 → (countAt (run .stored) t ≤ 1) × (countAt (run .waiting) t ≤ 1)
 

@@ -8,6 +8,7 @@
 --                          14, 15  unblock each input
 --   upon receive msg:      18, 19  {state', out_records} := udf(msg, state); state := state'
 --                          20, 21  send each out_record on its output
+use mathlib.Core.Path.{_≡_, refl}
 use mathlib.Core.Bool.{true, cond, _&&_}
 use Prim.Native.Nat.{ℕ, _+_, _-_}
 use lib.Dec.{ltb, leb}
@@ -38,6 +39,10 @@ completed job run = cond (ltb 0 (run .«under_way») && allStored job (run .stor
 -- a stray barrier. With one under way at most that is the one with the number 0
 unfoldable pub turnOf : ℕ → ℕ → ℕ
 turnOf stored under = cond (ltb stored under) stored (under - 1)
+
+pub turns : (turnOf 0 1 ≡ 0) × (turnOf 1 1 ≡ 0) × (turnOf 0 0 ≡ 0) × (turnOf 1 0 ≡ 0) × (turnOf 2 4 ≡ 2) × (turnOf 4 4 ≡ 3)
+unfolding turnOf
+turns = (refl, refl, refl, refl, refl, refl)
 
 -- 12, 13: the task's totals are stored in the half-taken snapshot, and a barrier goes on every output
 unfoldable pub storedBy : Job → Run → ℕ → Run

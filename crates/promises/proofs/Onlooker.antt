@@ -1,9 +1,10 @@
 -- The worked station of document 01 as the onlooker sees it, computed from the definitions: 23 steps are done and one snapshot is begun;
 -- when it is complete he has noted 1 and 2 records read, and so it says; the formula's numbers are 23 + 7 and 5 + 17 + 1 x (1 + 2 + 5);
--- and before the drain channel 0 has had two of its three records, has delivered both, and holds none.
+-- and before the drain channel 0 has had two of its three records, has delivered both, and holds none. After it a second snapshot, and one
+-- after a cut, which the barrier of one that was given up comes before (`watched-on`).
 use mathlib.Core.Path.{_≡_, refl}
 use mathlib.Core.Bool.{true}
-use mathlib.Core.List.{List, [], _∷_}
+use mathlib.Core.List.{List, [], _∷_, _++_}
 use Prim.Native.Nat.{ℕ}
 use Rattle.kinds.specs.Kinds.{sentOn}
 use Rattle.channel.specs.Channels.{withItem, withoutHead}
@@ -51,3 +52,26 @@ unfolding sentOn sentOver placeOf some every filled sweep sweeps jobOf jobAnswer
     withTaken delivered isNoSource nextRecord sourceRead barrierSent begun cutOff stepped
     stepOn admittedOf afterSteps notesOf overSteps
 watched = (refl, refl, refl, refl, refl, refl, refl, refl, refl, refl, refl, refl, refl)
+
+-- A send that is refused is not noted. The second snapshot's notes are its own, 3 and 2: those of the first were taken with its 20
+abbrev twice : List ℕ
+twice = 48 ∷ worked ++ (64 ∷ 32 ∷ 48 ∷ 49 ∷ 0 ∷ 0 ∷ 1 ∷ 3 ∷ 3 ∷ 3 ∷ 2 ∷ 2 ∷ 2 ∷ 4 ∷ 4 ∷ [])
+
+-- The barrier that source 0 sent at 2 is forgotten with the cut; the snapshot begun after it has 3 and 2
+abbrev cutOnce : List ℕ
+cutOnce = worked ++ (64 ∷ 48 ∷ 65 ∷ 32 ∷ 64 ∷ 32 ∷ 48 ∷ 49 ∷ 0 ∷ 0 ∷ 0 ∷ 1 ∷ 3 ∷ 3 ∷ 3 ∷ 2 ∷ 2 ∷ 2 ∷ 4 ∷ 4 ∷ [])
+
+pub watched-on :
+    ((stepsDone station twice ≡ 38) × (snapshotsBegun station twice ≡ 2))
+    × ((notesAt station twice .complete 0 ≡ 3) × (notesAt station twice .complete 1 ≡ 2))
+    × ((stepsDone station cutOnce ≡ 43) × (snapshotsBegun station cutOnce ≡ 3))
+    × ((notesAt station cutOnce .complete 0 ≡ 3) × (notesAt station cutOnce .complete 1 ≡ 2))
+unfolding sentOn sentOver placeOf some every filled sweep sweeps jobOf jobAnswer firstFault capped cappedInflow
+    fault1 fault2 fault3 fault4 fault5 fault6 badTask offTable badPart badRecord badRecords
+    hasInput fault7 fault8 fault9 strike struckTasks worstAnew worstCounts readBy receivedBy
+    runFits channelsFit tasksFit taskFits limitOf totalsFit placeFits channelFits
+    withItem withoutHead someFull allMarked allStored eachPlace unmarked sourcesWait turnOf putOn putAll
+    completed storedBy barrierReceived takenIn recordReceived
+    withTaken delivered isNoSource nextRecord sourceRead barrierSent begun cutOff stepped
+    stepOn admittedOf afterSteps notesOf overSteps
+watched-on = ((refl, refl), (refl, refl), (refl, refl), (refl, refl))
