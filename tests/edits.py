@@ -1,7 +1,7 @@
-"""Edits that the prover must refuse, and why it refuses them. crates/CRATE/must-fail/ has the few that `rt ci` tries from nothing, crates/CRATE/edits/ the
-others, in the same format; these are tried here, over what `rt ci` proved (prover.py). An edit counts twice: it is refused, and for its
-reason, that is, the first error says that a fact fails and stands at the statement that the edit itself names as the one that it makes
-false ('# refused at: FILE NAME').
+"""Edits that the prover must refuse, and why it refuses them. crates/CRATE/must-fail/ has the few that `rt ci` tries from nothing,
+crates/CRATE/edits/ the others, in the same format; these are tried here, over what `rt ci` proved (prover.py). An edit counts twice: it
+is refused, and for its reason, that is, the first error says that a fact fails and stands at the statement that the edit itself names
+as the one that it makes false ('# refused at: FILE NAME').
 usage: edits.py [--cold] [EDIT..]    tries these edits, or all of crates/*/edits; --cold proves the edited crate from nothing
        edits.py --reasons            looks why `rt ci` refused those of crates/*/must-fail
 Ends in one line 'N passed, M failed'."""
@@ -10,7 +10,6 @@ import glob
 import os
 import re
 import sys
-import time
 
 import prover
 
@@ -32,7 +31,7 @@ def apply(edit, folder):
     """Makes the edit's replacements in a copy of the crate. Gives what is wrong with the edit, or ''."""
     file = old = ""
     pairs = 0
-    for line in open(edit, encoding="utf8").read().split("\n"):
+    for line in open(edit, encoding="utf8", newline="").read().split("\n"):
         if line.startswith("file: "):
             file = line[6:]
         elif line.startswith("old: "):
@@ -41,10 +40,10 @@ def apply(edit, folder):
             path = os.path.normpath(f"{folder}/{file}")
             if not path.startswith(tuple(f"{folder}/{part}/" for part in prover.PARTS)) or not os.path.isfile(path):
                 return f"it names no file of the crate: '{file}'"
-            text = open(path, encoding="utf8").read()
+            text = open(path, encoding="utf8", newline="").read()
             if not old or text.count(old) != 1:
                 return f"the text '{old}' is in {file} {text.count(old) if old else 0} times and not once"
-            with open(path, "w", encoding="utf8") as changed:
+            with open(path, "w", encoding="utf8", newline="") as changed:
                 changed.write(text.replace(old, line[4:].removeprefix(" ")))
             old, pairs = "", pairs + 1
     return "" if pairs else "it has no 'old:' and 'new:' pair"
@@ -56,10 +55,11 @@ def place(error, folder):
     return re.sub(r"(/Proof)?\.antt$", "", found[1]) + " " + found[2] if found else ""
 
 
-def reason(edit, error, folder):
-    """'' where the first error is the one that the edit promises, else what is wrong."""
-    wanted = re.findall(r"^# refused at: (.*)$", open(edit, encoding="utf8").read(), re.M)
-    if wanted == [place(error, folder)] and FACT.search(error) and not MISFIT.search(error):
+def reason(edit, said, folder):
+    """'' where the first error is the one that the edit promises, else what is wrong. A hole is no error to the prover, and no fact."""
+    error = prover.first_error(said)
+    wanted = re.findall(r"^# refused at: (.+)$", open(edit, encoding="utf8").read(), re.M)
+    if wanted == [place(error, folder)] and FACT.search(error) and not MISFIT.search(error) and "has-holes" not in said:
         return ""
     return f"to be refused at '{', '.join(wanted)}', and is refused for: {error or 'no error'}"
 
@@ -80,17 +80,17 @@ def tried(edit, cold):
         effort = f", {modules[1]} modules taken and {modules[2]} proved" if modules else ""
         refused = status == 1 and re.search(r"^logic=not-proved", said, re.M)
         wrong = "" if refused else "NOT REFUSED" if status == 0 else f"did not reach the prover (exit {status}): {said[:300]}"
-        return wrong, reason(edit, prover.first_error(said), folder), effort
+        return wrong, reason(edit, said, folder), effort
 
 
 def try_all(edits, cold):
     passed = failed = 0
     for edit in edits:
-        began = time.time()
+        before = prover.processor_seconds()
         wrong, other, effort = tried(edit, cold)
         crate, label = crate_and_label(edit)
         outcome = "; ".join(filter(None, (wrong, other))) or "refused, at the statement that it names"
-        print(f"{crate}/{label}: {outcome} ({time.time() - began:.1f} s{effort})", flush=True)
+        print(f"{crate}/{label}: {outcome} ({prover.processor_seconds() - before:.1f} s of processor{effort})", flush=True)
         passed += (not wrong) + (not other)
         failed += bool(wrong) + bool(other)
     return passed, failed
@@ -101,7 +101,7 @@ def reasons():
     for edit in sorted(glob.glob(f"{TREE}/crates/*/must-fail/*.edit")):
         folder = f"{TREE}/target/must-fail/{'/'.join(crate_and_label(edit))}"
         said = open(f"{folder}/.log", encoding="utf8").read() if os.path.exists(f"{folder}/.log") else ""
-        other = reason(edit, prover.first_error(said), folder)
+        other = reason(edit, said, folder)
         passed, failed = passed + (not other), failed + bool(other)
         if other:
             print(f"{'/'.join(crate_and_label(edit))}: {other}")

@@ -1,10 +1,11 @@
-"""The pool of the test command: jobs that wait for nothing of each other run side by side, JOBS at a time (two, if the environment does not say), and
-`rt ci` is one of them. What a job says is kept and printed at the end, part by part, in the order in which parts.py names them; in
-between a line every half minute says what is running and how many are done. A job ends in one line 'N passed, M failed'; one that could
-not run, or that ends badly without a failure, counts as failed.
+"""The pool of the test command: jobs that wait for nothing of each other run side by side, two at a time (JOBS in the environment says
+otherwise), and `rt ci` is one of them. What a job says is kept and printed at the end, part by part, in the order in which parts.py names
+them; in between a line every half minute says what is running and how many are done. A job ends in one line 'N passed, M failed'; one
+that could not run, or that ends badly without a failure, counts as failed.
 usage: gate.py [--long]"""
 
 import contextlib
+import fcntl
 import os
 import re
 import signal
@@ -12,16 +13,18 @@ import subprocess
 import sys
 import tempfile
 import time
+import traceback
 
 import parts
 
-JOBS = max(1, int(os.environ.get("JOBS", "2")))
 TALLY = re.compile(r"(\d+) passed, (\d+) failed$")
 
 
-def start(job, log):
+def start(job, log, lock):
+    """In a session of its own, so that it can be ended with all its children; each holds the lock as long as it lives."""
     environment = {**os.environ, **job.environment}
-    return subprocess.Popen(job.command, stdout=log, stderr=subprocess.STDOUT, env=environment, start_new_session=True)
+    kept = [] if lock is None else [lock.fileno()]
+    return subprocess.Popen(job.command, stdout=log, stderr=subprocess.STDOUT, env=environment, start_new_session=True, pass_fds=kept)
 
 
 def result(status, said):
@@ -39,8 +42,10 @@ def result(status, said):
 
 
 class Pool:
-    def __init__(self, jobs):
-        self.jobs, self.waiting = jobs, list(jobs)
+    def __init__(self, names, jobs, most=2, lock=None):
+        self.parts, self.jobs, self.waiting = names, jobs, list(jobs)
+        self.most, self.lock = most, lock
+        assert all(job.part in names for job in jobs)
         self.running, self.results, self.seconds = {}, {}, {}
         self.began = self.told = time.time()
 
@@ -62,11 +67,14 @@ class Pool:
         """Starts what is ready. Where nothing runs and nothing is ready, what the others wait for never comes."""
         done = {job.name for job in self.results}
         for job in list(self.waiting):
-            if len(self.running) < JOBS and job.ready(done):
+            if len(self.running) < self.most and job.ready(done):
                 self.waiting.remove(job)
                 log = tempfile.TemporaryFile()
-                self.running[job] = (start(job, log), log, time.time())
-        if not self.running:
+                try:
+                    self.running[job] = (start(job, log, self.lock), log, time.time())
+                except OSError as error:
+                    self.end(job, 0, 1, f"{job.name}: it cannot be started: {error}", 0)
+        if not self.running and not any(job.ready(done) for job in self.waiting):
             for job in self.waiting:
                 self.end(job, 0, 1, f"{job.name}: what it waits for did not come: {' '.join(job.missing(done)) or 'target/'}", 0)
             self.waiting = []
@@ -93,26 +101,45 @@ class Pool:
     def report(self):
         """Each part's jobs together; gives what passed and failed in all."""
         totals = [0, 0]
-        for part in dict.fromkeys(job.part for job in self.jobs):
+        for part in self.parts:
             own = [job for job in self.jobs if job.part == part]
             for job in own:
                 print(self.results[job][2], end="\n" if self.results[job][2] else "")
             passed, failed = (sum(self.results[job][i] for job in own) for i in (0, 1))
+            failed += not own  # a part that has nothing to try shows nothing
             totals[0], totals[1] = totals[0] + passed, totals[1] + failed
             print(f"{part}: {passed} passed, {failed} failed ({sum(self.seconds[job] for job in own):.0f} s of one job)", flush=True)
         return totals
+
+
+def run(words):
+    lock = open("crates.txt", encoding="utf8")
+    try:
+        fcntl.flock(lock, fcntl.LOCK_EX | fcntl.LOCK_NB)
+    except BlockingIOError:
+        print("test: another run, or what it left behind, is still at work in this folder")
+        return 0, 1
+    most = int(os.environ.get("JOBS", "2"))
+    for number in (signal.SIGTERM, signal.SIGHUP, signal.SIGQUIT):
+        signal.signal(number, lambda *_: sys.exit(1))
+    subprocess.run(["rm", "-rf", "target"], check=True)
+    pool = Pool(parts.PARTS, parts.jobs(long=bool(words)), max(1, most), lock)
+    pool.run()
+    totals = pool.report()
+    print(f"{time.time() - pool.began:.0f} s in all, {pool.most} jobs at a time on {os.uname().machine}")
+    return totals
 
 
 def main(words):
     if words not in ([], ["--long"]):
         print("usage: ./test [--long]", file=sys.stderr)
         return 2
-    signal.signal(signal.SIGTERM, lambda *_: sys.exit(1))
-    subprocess.run(["rm", "-rf", "target"], check=True)
-    pool = Pool(parts.jobs(long=bool(words)))
-    pool.run()
-    passed, failed = pool.report()
-    print(f"{time.time() - pool.began:.0f} s in all, {JOBS} jobs at a time on {os.uname().machine}")
+    sys.stdout.reconfigure(errors="replace")
+    try:
+        passed, failed = run(words)
+    except Exception:
+        traceback.print_exc(file=sys.stdout)
+        passed, failed = 0, 1
     print(f"{passed} passed, {failed} failed")
     return failed > 0 or passed == 0
 

@@ -6,6 +6,18 @@ import re
 
 import prover
 
+PARTS = PROVED, CAN_FAIL, REASONS, EDITS, TEETH, LAYOUT, ALONE, COMPARED, FAULTS, READERS = (
+    "proofs, must-fail edits and programs",
+    "the test command can fail",
+    "reasons of the must-fail edits",
+    "the other edits, and their reasons",
+    "teeth of the promises",
+    "layout of the sources",
+    "the second program by itself",
+    "our programs and the second program",
+    "seeded faults, against our programs",
+    "a stock reader, the longest text, small pieces",
+)
 PROOFS, SECOND, STARTED = "rt ci", "second program", "programs started"
 KINDS, PROGRAMS = ("accepted", "broken", "jobs", "limits", "heavy"), ("totals", "trace")
 SECOND_PROGRAM = "target/second/release/second"
@@ -40,12 +52,12 @@ def shell(script):
 
 def edits(cold):
     """One job an edit, in the order in which the crates are proved."""
-    part, words = ("edits, from nothing", ["--cold"]) if cold else ("edits, over what was proved", [])
     order = {crate: number for number, crate in enumerate(prover.crates("."))}
     found = []
     for edit in sorted(glob.glob("crates/*/edits/*.edit"), key=lambda path: (order.get(path.split("/")[1], 0), path)):
         crate, label = edit.split("/")[1], os.path.basename(edit).removesuffix(".edit")
-        found.append(Job(part, f"{crate}/{label}", ["python3", "tests/edits.py", *words, edit], [crate]))
+        command = ["python3", "tests/edits.py", *(["--cold"] if cold else []), edit]
+        found.append(Job(EDITS, f"{crate}/{label}", command, [crate]))
     return found
 
 
@@ -53,18 +65,17 @@ def teeth():
     """A wrong program waits for the crate that refuses it, and so for all that it stands on."""
     found = []
     for patch in sorted(glob.glob("wrong/*.patch")):
-        refused = re.search(r"^refused: crates/([^/]+)/", open(patch, encoding="utf8").read(), re.M)
-        found.append(Job("teeth of the promises", patch, ["wrong/check", patch], [refused[1]] if refused else []))
+        refused = re.search(r"^refused: crates/([^/]+)/", open(patch, encoding="utf8", errors="replace").read(), re.M)
+        found.append(Job(TEETH, patch, ["wrong/check", patch], [refused[1]] if refused else []))
     return found
 
 
 def compared(count):
     """Our programs and the second program print the same, byte for byte, on seeded cases of each kind. A difference is shown with its seed
     and the command that shows it again."""
-    part = "our programs and the second program"
     script = f"{SECOND_PROGRAM} compare --kind %s --from 1 --count {count} --jobs 1 --%s target/start/%s"
     return [
-        Job(part, f"compare {kind} {program}", shell(script % (kind, program, program)), after=[SECOND, STARTED])
+        Job(COMPARED, f"compare {kind} {program}", shell(script % (kind, program, program)), after=[SECOND, STARTED])
         for kind in KINDS
         for program in PROGRAMS
     ]
@@ -77,17 +88,17 @@ def jobs(long):
     alone = f"command -v cargo > /dev/null || {{ echo 'test: cargo, which builds the second program, is not installed'; exit 1; }}; \
 cd second && cargo build --release --quiet && cd .. && {SECOND_PROGRAM} check"
     # One job of the pool at a time: the crates of a level seldom fill two, and what is proved frees edits for the other.
-    proofs = Job("proofs, must-fail edits and programs", PROOFS, ["rt", "ci"], environment={"RT_JOBS": "1"})
+    proofs = Job(PROVED, PROOFS, ["rt", "ci"], environment={"RT_JOBS": "1"})
     return [
         proofs,
-        Job("the test command can fail", "can fail", ["python3", "tests/can_fail.py"], ["tally"]),
-        Job("reasons of the must-fail edits", "reasons", ["python3", "tests/edits.py", "--reasons"], after=[PROOFS]),
+        Job(CAN_FAIL, "can fail", ["python3", "tests/can_fail.py"], ["tally"]),
+        Job(REASONS, "reasons", ["python3", "tests/edits.py", "--reasons"], after=[PROOFS]),
         *edits(cold=long),
         *teeth(),
-        Job("layout of the sources", "layout", shell(layout)),
-        Job("the second program by itself", SECOND, shell(alone)),
-        Job("our programs and the second program", STARTED, shell(started), PROGRAMS),
+        Job(LAYOUT, "layout", shell(layout)),
+        Job(ALONE, SECOND, shell(alone)),
+        Job(COMPARED, STARTED, shell(started), PROGRAMS),
         *compared(20000 if long else 500),
-        Job("seeded faults, against our programs", "seeded faults", shell(catch), after=[SECOND, STARTED]),
-        Job("a stock reader, the longest text, small pieces", "stock reader", ["python3", "tests/readers.py"], after=[STARTED]),
+        Job(FAULTS, "seeded faults", shell(catch), after=[SECOND, STARTED]),
+        Job(READERS, "stock reader", ["python3", "tests/readers.py"], after=[STARTED]),
     ]

@@ -5,6 +5,8 @@ libraries under target/rlib, and only those that the change reaches are proved a
 import contextlib
 import functools
 import os
+import re
+import resource
 import shutil
 import subprocess
 import tempfile
@@ -30,9 +32,16 @@ def crates(tree):
     return found
 
 
+def reached(tree, name):
+    """The libraries on which a crate stands, those of the kit too that a crate of the tree names."""
+    found = {}
+    for below in crates(tree).get(name, ()):
+        found.update(dict.fromkeys([*reached(tree, below), below]))
+    return list(found)
+
+
 def library(tree, name):
-    folder = f"{tree}/target/rlib/{name}.rlib"
-    return folder if name in crates(tree) else f"{kit()[1]}/rlib/{name}.rlib"
+    return f"{tree}/target/rlib/{name}.rlib" if name in crates(tree) else f"{kit()[1]}/rlib/{name}.rlib"
 
 
 @contextlib.contextmanager
@@ -52,11 +61,13 @@ def copy_crate(tree, name, to):
 
 
 def seed(tree, names, folder):
-    """Makes an incremental folder of the modules that these crates' libraries carry as proved. They are copied, since the prover writes."""
+    """An incremental folder of the modules that these crates' libraries carry as proved. They are copied, since the prover writes."""
+    os.makedirs(folder)
     for name in names:
-        with open(f"{library(tree, name)}/format", encoding="utf8") as lines:
-            build = next(line.split()[1] for line in lines if line.startswith("rattle-build "))
-        shutil.copytree(f"{library(tree, name)}/toolchain/checked", f"{folder}/{build.replace('/', '_')}", dirs_exist_ok=True)
+        build = re.search(r"^rattle-build (\S+)$", open(f"{library(tree, name)}/format", encoding="utf8").read(), re.M)
+        checked = f"{library(tree, name)}/toolchain/checked"
+        if build and os.path.isdir(checked):
+            shutil.copytree(checked, f"{folder}/{build[1].replace('/', '_')}", dirs_exist_ok=True)
 
 
 def root_file(folder):
@@ -64,11 +75,14 @@ def root_file(folder):
 
 
 def check(tree, name, folders, incremental=None):
-    """Checks the crate `name`; `folders` has the folder of each changed crate, its own among them. A changed crate below it is passed as source.
-    Gives the exit status and what the prover said."""
+    """Checks the crate `name`; `folders` has the folder of each changed crate, its own among them. A changed crate below it is passed as
+    source. Gives the exit status and what the prover said."""
     home, own = kit()
     words = ["--crate-name", name, root_file(folders[name]), "--extern", f"std={own}/rlib/std.rlib"]
-    for below in crates(tree)[name]:
+    passed = dict.fromkeys(crates(tree)[name])
+    for source in [below for below in reached(tree, name) if below in folders]:
+        passed.update(dict.fromkeys([source, *crates(tree)[source]]))
+    for below in passed:
         if below in folders:
             words += ["--lib", f"{below}:{','.join(crates(tree)[below])}={root_file(folders[below])}"]
         else:
@@ -77,8 +91,14 @@ def check(tree, name, folders, incremental=None):
     words += ["--antt-project", f"{home}/logic/antt-project.json", "--logic-built", f"{own}/logic-built"]
     if incremental:
         words += ["--incremental", incremental]
-    ended = subprocess.run([f"{own}/bin/rattle", "check", *words], stdout=subprocess.PIPE, stderr=subprocess.STDOUT, text=True)
-    return ended.returncode, ended.stdout
+    ended = subprocess.run([f"{own}/bin/rattle", "check", *words], stdout=subprocess.PIPE, stderr=subprocess.STDOUT)
+    return ended.returncode, ended.stdout.decode("utf8", "replace")
+
+
+def processor_seconds():
+    """Of the checks that have ended: a wall clock would count what runs beside."""
+    used = resource.getrusage(resource.RUSAGE_CHILDREN)
+    return used.ru_utime + used.ru_stime
 
 
 def first_error(said):
