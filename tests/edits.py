@@ -96,8 +96,16 @@ def try_all(edits, cold):
     return passed, failed
 
 
+def strays():
+    """Edits that stand where neither `rt ci` nor this runner looks."""
+    found = set(glob.glob("**/*.edit", root_dir=TREE, recursive=True))
+    return sorted(path for path in found if not re.fullmatch(r"crates/[^/]+/(must-fail|edits)/[^/]+|target/.*", path))
+
+
 def reasons():
-    passed = failed = 0
+    passed, failed = 0, len(strays())
+    for path in strays():
+        print(f"{path}: tried by nobody; it belongs into crates/CRATE/edits/")
     for edit in sorted(glob.glob(f"{TREE}/crates/*/must-fail/*.edit")):
         folder = f"{TREE}/target/must-fail/{'/'.join(crate_and_label(edit))}"
         said = open(f"{folder}/.log", encoding="utf8").read() if os.path.exists(f"{folder}/.log") else ""

@@ -1,7 +1,7 @@
-"""The pool of the test command: jobs that wait for nothing of each other run side by side, two at a time (JOBS in the environment says
-otherwise), and `rt ci` is one of them. What a job says is kept and printed at the end, part by part, in the order in which parts.py names
-them; in between a line every half minute says what is running and how many are done. A job ends in one line 'N passed, M failed'; one
-that could not run, or that ends badly without a failure, counts as failed.
+"""The pool of the test command: jobs that wait for nothing of each other run side by side, two at a time (TEST_JOBS in the environment
+says otherwise), and `rt ci` is one of them. What a job says is kept and printed at the end, part by part, in the order in which parts.py
+names them; in between a line every half minute says what is running and how many are done. A job ends in one line 'N passed, M failed';
+one that could not run, or that ends badly without a failure, counts as failed.
 usage: gate.py [--long]"""
 
 import contextlib
@@ -119,7 +119,7 @@ def run(words):
     except BlockingIOError:
         print("test: another run, or what it left behind, is still at work in this folder")
         return 0, 1
-    most = int(os.environ.get("JOBS", "2"))
+    most = int(os.environ.get("TEST_JOBS", "2"))
     for number in (signal.SIGTERM, signal.SIGHUP, signal.SIGQUIT):
         signal.signal(number, lambda *_: sys.exit(1))
     subprocess.run(["rm", "-rf", "target"], check=True)

@@ -9,6 +9,7 @@ import re
 import resource
 import shutil
 import subprocess
+import sys
 import tempfile
 
 PARTS = ("src", "specs", "proofs")
@@ -47,6 +48,7 @@ def library(tree, name):
 @contextlib.contextmanager
 def room(tree):
     """A folder for one check, below target/, which the next run removes whatever becomes of this one."""
+    os.makedirs(f"{tree}/target", exist_ok=True)
     folder = os.path.realpath(tempfile.mkdtemp(dir=f"{tree}/target", prefix="check."))
     try:
         yield folder
@@ -64,6 +66,8 @@ def seed(tree, names, folder):
     """An incremental folder of the modules that these crates' libraries carry as proved. They are copied, since the prover writes."""
     os.makedirs(folder)
     for name in names:
+        if not os.path.exists(f"{library(tree, name)}/format"):
+            sys.exit(f"{name} is not proved yet: rt check {name}")
         build = re.search(r"^rattle-build (\S+)$", open(f"{library(tree, name)}/format", encoding="utf8").read(), re.M)
         checked = f"{library(tree, name)}/toolchain/checked"
         if build and os.path.isdir(checked):
