@@ -30,13 +30,15 @@ EDITS = [
     ("changes nothing", AT + "file: src/lib.rt\nold: of no record.\nnew: of no records.\n", False, False),
     ("has a hole beside", AT + COUNTED + HOLE, True, False),
 ]
-SPECS, CODE = "crates/tally/specs/Totals.antt", "crates/tally/src/lib.rt"
+SPECS, CODE, FOLD = "crates/tally/specs/Totals.antt", "crates/tally/src/lib.rt", "crates/tally/proofs/Fold.antt"
 FALSE_FUNCTION = "pub fn seven(x: u32) -> u32\n    ensures { λ r. ⌜ r ≡ 7 ⌝ }\n{\n    x\n}\n"
 # what is wrong with a wrong program, the file that it changes, the change, and what the runner says
 PATCHES = [
     ("is accepted", SPECS, lambda text: text.replace("of the records", "of records", 1), "accepted"),
     ("has a contract that fails", CODE, lambda text: text + FALSE_FUNCTION, "not only by a law of tally: fn tally::seven"),
-    ("has a hole", SPECS, lambda text: text + "pub false-one : (n : ℕ) → n ≡ suc n\nfalse-one n = ?\n", "has-holes"),
+    ("has a hole", SPECS, lambda text: text + "pub false-one : (n : ℕ) → n ≡ suc n\nfalse-one n = ?\n", "not admitted: has-holes"),
+    ("leaves a proof open", SPECS, lambda text: text + "pub false-one : (n : ℕ) → n ≡ suc n\nfalse-one n = _\n", "not admitted: unsolved"),
+    ("has a name that is not there", FOLD, lambda text: text.replace("go false v e h = refl", "go false v e h = no-such"), "first refusal is"),
     ("breaks a layer below", "crates/laws/specs/Totals.antt", lambda text: text + "pub broken : ℕ\n", "law of tally: crates/laws"),
     ("changes a layer beside", "crates/rows/src/lib.rt", lambda text: text + "// more\n", "rows, on which tally does not stand"),
     ("changes what is no crate", "crates.txt", lambda text: text + "# more\n", "on which tally does not stand"),
@@ -92,6 +94,7 @@ def try_patches(room):
         try_patch(room, name, patch_of(file, change), wanted)
     accepted = patch_of(*PATCHES[0][1:3])
     try_patch(room, "names no theorem", accepted.replace("refused:", "not"), "names no theorem")
+    try_patch(room, "renames a file", accepted + "rename from crates/tally/src/lib.rt\n", "no plain patch")
     try_patch(room, "does not apply", accepted.replace("-- The totals", "-- No totals"), "does not apply")
 
 

@@ -21,6 +21,8 @@ FACT = re.compile(
 )
 # The proof file no longer fits the code: that is no fact.
 MISFIT = re.compile(r"expected type `tie\.Need")
+# What the prover says of a hole, or of a proof that is left to it and not found: no error, and no fact.
+OPEN = "` is not admitted: "
 
 
 def crate_and_label(edit):
@@ -55,11 +57,15 @@ def place(error, folder):
     return re.sub(r"(/Proof)?\.antt$", "", found[1]) + " " + found[2] if found else ""
 
 
+def is_fact(error):
+    return FACT.search(error) and not MISFIT.search(error)
+
+
 def reason(edit, said, folder):
-    """'' where the first error is the one that the edit promises, else what is wrong. A hole is no error to the prover, and no fact."""
+    """'' where the first error is the one that the edit promises, else what is wrong."""
     error = prover.first_error(said)
     wanted = re.findall(r"^# refused at: (.+)$", open(edit, encoding="utf8").read(), re.M)
-    if wanted == [place(error, folder)] and FACT.search(error) and not MISFIT.search(error) and "has-holes" not in said:
+    if wanted == [place(error, folder)] and is_fact(error) and OPEN not in said:
         return ""
     return f"to be refused at '{', '.join(wanted)}', and is refused for: {error or 'no error'}"
 

@@ -18,12 +18,13 @@ import traceback
 import parts
 
 TALLY = re.compile(r"(\d+) passed, (\d+) failed$")
+SIGNALS = (signal.SIGTERM, signal.SIGHUP, signal.SIGQUIT, signal.SIGINT)
 
 
 def start(job, log, lock):
-    """In a session of its own, so that it can be ended with all its children; each holds the lock as long as it lives."""
+    """In a session of its own, so that it can be ended with all its children; a job holds the lock as long as it lives."""
     environment = {**os.environ, **job.environment}
-    kept = [] if lock is None else [lock.fileno()]
+    kept = [] if lock is None else [lock]
     return subprocess.Popen(job.command, stdout=log, stderr=subprocess.STDOUT, env=environment, start_new_session=True, pass_fds=kept)
 
 
@@ -39,6 +40,11 @@ def result(status, said):
     elif last.start() == 0:
         lines.pop()
     return passed, failed, "\n".join(lines)
+
+
+def end_group(process):
+    with contextlib.suppress(ProcessLookupError):
+        os.killpg(process.pid, signal.SIGKILL)
 
 
 class Pool:
@@ -58,6 +64,7 @@ class Pool:
         for job, (process, log, began) in list(self.running.items()):
             if process.poll() is not None:
                 del self.running[job]
+                end_group(process)
                 log.seek(0)
                 said = log.read().decode("utf8", "replace")
                 log.close()
@@ -93,10 +100,12 @@ class Pool:
                 self.fill()
                 self.tell()
                 time.sleep(0.1)
-        finally:
+        except BaseException:
+            for number in SIGNALS:
+                signal.signal(number, signal.SIG_IGN)
             for process, _, _ in self.running.values():
-                with contextlib.suppress(ProcessLookupError):
-                    os.killpg(process.pid, signal.SIGKILL)
+                end_group(process)
+            raise
 
     def report(self):
         """Each part's jobs together; gives what passed and failed in all."""
@@ -113,14 +122,14 @@ class Pool:
 
 
 def run(words):
-    lock = open("crates.txt", encoding="utf8")
+    lock = os.open("tests", os.O_RDONLY)
     try:
         fcntl.flock(lock, fcntl.LOCK_EX | fcntl.LOCK_NB)
     except BlockingIOError:
         print("test: another run, or what it left behind, is still at work in this folder")
         return 0, 1
     most = int(os.environ.get("TEST_JOBS", "2"))
-    for number in (signal.SIGTERM, signal.SIGHUP, signal.SIGQUIT):
+    for number in SIGNALS:
         signal.signal(number, lambda *_: sys.exit(1))
     subprocess.run(["rm", "-rf", "target"], check=True)
     pool = Pool(parts.PARTS, parts.jobs(long=bool(words)), max(1, most), lock)
@@ -137,6 +146,9 @@ def main(words):
     sys.stdout.reconfigure(errors="replace")
     try:
         passed, failed = run(words)
+    except SystemExit:
+        print("test: ended by a signal")
+        passed, failed = 0, 1
     except Exception:
         traceback.print_exc(file=sys.stdout)
         passed, failed = 0, 1

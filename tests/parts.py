@@ -84,7 +84,9 @@ def compared(count):
 def jobs(long):
     catch = f"{SECOND_PROGRAM} catch --totals target/start/totals --trace target/start/trace --from 0 --count 300"
     layout = "if rt fmt --check; then echo '1 passed, 0 failed'; else echo '0 passed, 1 failed'; exit 1; fi"
-    started = "./run > /dev/null && ./run --trace > /dev/null && echo '1 passed, 0 failed'"
+    # ./run would prove anew, beside `rt ci`, what changed after it was built
+    changed = r"find crates crates.txt -newer target/bin/totals \( -name '*.rt' -o -name '*.antt' -o -name crates.txt \) -print"
+    started = f"{changed} | grep . && exit 1; ./run > /dev/null && ./run --trace > /dev/null && echo '1 passed, 0 failed'"
     alone = f"command -v cargo > /dev/null || {{ echo 'test: cargo, which builds the second program, is not installed'; exit 1; }}; \
 cd second && cargo build --release --quiet && cd .. && {SECOND_PROGRAM} check"
     # One job of the pool at a time: the crates of a level seldom fill two, and what is proved frees edits for the other.
