@@ -34,10 +34,10 @@ use Rattle.step.proofs.Rooms.{has-room}
 use Rattle.step.proofs.Sources.{opened, given}
 use Rattle.step.proofs.Lent.{record-fits, inside-part, part-short}
 use Rattle.drain.specs.Drains.{taskLeft, tasksLeft, channelsLeft, someLeft, possible}
-use Rattle.ready.specs.Ready.{headMoves, deliversBy, sourceOf, actsBy, taskBy, channelBy, headOf}
-use Rattle.ready.specs.Sending.{broughtBy, leftOn}
-use Rattle.drain.proofs.Possible.{by-delivery, by-read, delivery-ready, source-ready}
-use Rattle.drain.proofs.InPlace.{Delivers, delivers-says, Acts, acts-says}
+use Rattle.flat.specs.Columns.{headOf, isBarrier}
+use Rattle.drain.specs.Ready.{headMoves, deliversBy, sourceOf, actsBy, taskBy, channelBy}
+use Rattle.drain.specs.Sending.{broughtBy, leftOn}
+use Rattle.drain.proofs.Possible.{by-delivery, by-read, delivery-ready, source-ready, Delivers, delivers-says, Acts, acts-says}
 
 or-first : (a b c : Bool) → a ≡ true → a || b || c ≡ true
 or-first true b c e = refl
@@ -85,7 +85,7 @@ pub record Brings (job : Job) (cs vs : List ℤ) (run : Run) (n : ℕ) (got : Re
 module _ (job : Job) (cs vs : List ℤ) (run : Run) (n : ℕ) (J : JobFits job (length cs)) (F : Fits job run)
     (p : possible job cs vs run n ≡ true) where
   pub delivers : n < 32 → Delivers (job .channels) n (channelAt run n .count) (flagAt (run .marked) n)
-      (headMoves (job .to) (run .marked) (job .channels) n (headOf (channelAt run n)) (someFull job (run .channels) (toOf job n))
+      (headMoves (job .to) (run .marked) (job .channels) n (isBarrier (headOf (channelAt run n))) (someFull job (run .channels) (toOf job n))
       (totalsAt (run .live) (toOf job n) .count))
   unfolding deliversBy
   delivers l = delivers-says _ _ _ _ _ (sym (delivery-ready job run cs vs n l (F .channels n l .room)) ∙ p)

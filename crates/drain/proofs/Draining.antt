@@ -12,7 +12,7 @@ use Rattle.job.proofs.Bools.{neither}
 use Rattle.run.specs.declared.Run.{Run}
 use Rattle.step.specs.Step.{stepped}
 use Rattle.drain.specs.Drains.{someLeft, possible, firstFrom, lowest, ended, drainedOf}
-use Rattle.drain.specs.InPlace.{lastAnswer}
+use Rattle.drain.specs.Turns.{lastAnswer}
 
 or-left : (b : Bool) → b || false ≡ true → b ≡ true
 or-left true e = refl

@@ -1,6 +1,7 @@
--- A STEP OF 0 TO 63 IS POSSIBLE EXACTLY WHEN ITS PARTS SAY SO (`delivery-ready`, `source-ready`).
+-- A STEP OF 0 TO 63 IS POSSIBLE EXACTLY WHEN ITS PARTS SAY SO (`delivery-ready`, `source-ready`), and what a test that passed says
+-- (`delivers-says`, `acts-says`).
 use mathlib.Core.Path.{_≡_, refl, sym, ap, _∙_}
-use mathlib.Core.Bool.{Bool, true, false, cond, not, _&&_, _||_}
+use mathlib.Core.Bool.{Bool, true, false, cond, not, _&&_, _||_, false≢true}
 use mathlib.Core.List.{List}
 use Prim.Native.Nat.{ℕ, _-_, _%_, _≤_, _<_}
 use native.Mathlib.Omega.{arith}
@@ -24,7 +25,8 @@ use Rattle.step.specs.Step.{withCargo, withTaken, delivered, isNoSource, offset
 use Rattle.step.proofs.Fitting.{cond-has}
 use Rattle.lists.specs.Lists.{isDone}
 use Rattle.drain.specs.Drains.{possible}
-use Rattle.ready.specs.Ready.{headMoves, deliversBy, sourceOf, actsBy, headOf}
+use Rattle.flat.specs.Columns.{headOf, isBarrier}
+use Rattle.drain.specs.Ready.{headMoves, deliversBy, sourceOf, actsBy}
 
 -- ---- tests turned round
 pub ltb-not : (a b : ℕ) → ltb a b ≡ not (leb b a)
@@ -72,7 +74,7 @@ sent-plain false true false false run s e = refl
 -- ---- the parts of a delivery, and those of a step of source t
 abbrev pub deliveryReady : Job → Run → ℕ → Bool
 deliveryReady job run n =
-    deliversBy (job .to) (run .marked) (job .channels) n (channelAt run n .count) (headOf (channelAt run n))
+    deliversBy (job .to) (run .marked) (job .channels) n (channelAt run n .count) (isBarrier (headOf (channelAt run n)))
     (someFull job (run .channels) (toOf job n)) (totalsAt (run .live) (toOf job n) .count)
 
 abbrev pub sourceReady : Job → Run → ℕ → ℕ → Bool
@@ -110,7 +112,7 @@ module _ (job : Job) (run : Run) where
       (λ _. refl)
 
   moves-ready : (c : ℕ) (cargo : Cargo) (rest : Channel) → isDone (withCargo job run c cargo rest .answer)
-      ≡ headMoves (job .to) (run .marked) (job .channels) c cargo (someFull job (run .channels) (toOf job c))
+      ≡ headMoves (job .to) (run .marked) (job .channels) c (isBarrier cargo) (someFull job (run .channels) (toOf job c))
       (totalsAt (run .live) (toOf job c) .count)
   unfolding barrierReceived recordReceived allMarked allMarkedBy
   moves-ready c Barrier rest =
@@ -165,3 +167,34 @@ module _ (job : Job) (run : Run) where
             let t : n - 48 ≡ n % 16 = omega arith in
             ap (λ (s : Stepped). isDone (s .answer)) (by-sending job cs vs run n h high) ∙ sent-ready n (n - 48) h
             ∙ ap (sourceReady job run n) t
+
+-- ---- what a possible step says
+pub record Delivers (channels c count : ℕ) (marked moves : Bool) : Type 0 where
+  pub there : leb channels c ≡ false
+  pub held : eqb count 0 ≡ false
+  pub unmarked : marked ≡ false
+  pub goes : moves ≡ true
+
+pub delivers-says : (channels c count : ℕ) (marked moves : Bool)
+    → cond (leb channels c) false (cond (eqb count 0) false (cond marked false moves)) ≡ true → Delivers channels c count marked moves
+delivers-says channels c count marked moves = go (leb channels c) refl (eqb count 0) refl marked refl
+  where
+    go : (p : Bool) → leb channels c ≡ p → (z : Bool) → eqb count 0 ≡ z → (m : Bool) → marked ≡ m
+        → cond p false (cond z false (cond m false moves)) ≡ true → Delivers channels c count marked moves
+    go true p z q m r e = absurd (false≢true e)
+    go false p true q m r e = absurd (false≢true e)
+    go false p false q true r e = absurd (false≢true e)
+    go false p false q false r e = record { there = p; held = q; unmarked = r; goes = e }
+
+pub record Acts (there source full rest : Bool) : Type 0 where
+  pub is-there : there ≡ true
+  pub is-source : source ≡ true
+  pub room : full ≡ false
+  pub acts : rest ≡ true
+
+pub acts-says : (there source full rest : Bool) → cond there (cond source (cond full false rest) false) false ≡ true
+    → Acts there source full rest
+acts-says false source full rest e = absurd (false≢true e)
+acts-says true false full rest e = absurd (false≢true e)
+acts-says true true true rest e = absurd (false≢true e)
+acts-says true true false rest e = record { is-there = refl; is-source = refl; room = refl; acts = e }
