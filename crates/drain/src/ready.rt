@@ -2,12 +2,11 @@
 ghost use mathlib.Core.Path.{_≡_};
 ghost use mathlib.Core.Bool.{true};
 ghost use Prim.Native.Nat.{ℕ, _<_, _≤_};
-ghost use lib.Dec.{eqb, ltb};
+ghost use lib.Dec.{ltb};
 ghost use lib.IntN.{pos};
 ghost use lib.ListN.{getD};
 ghost use lib.Signed.{leZ};
 ghost use Rattle.drain.specs.Ready.{headMoves, deliversBy, sourceOf, actsBy, taskBy, possibleIn, notedBy, notedTo};
-use job::sends::names;
 
 // A task's number as it stands in a column.
 fn task(end: u8) -> usize
@@ -67,13 +66,6 @@ fn delivers(
     moves(to, marked, channels, c, barrier, full, received)
 }
 
-// The source that a step of 32 to 63 speaks of.
-fn source_of(n: u16) -> usize
-    ensures { λ r. ⌜ r ≡ sourceOf n ⌝ }
-{
-    (n % 16) as usize
-}
-
 // Whether the source can read its next record (below 48) or send its waiting barrier.
 fn acts(n: u16, there: bool, kind: u8, b: i32, received: u32, waits: bool, full: bool) -> bool
     requires { ⌜ (there ≡ true → kind ≡ 0 → leZ (pos 0) b ≡ true) ⌝ }
@@ -102,7 +94,7 @@ pub fn task_of(to: &[u8; 32], n: u16) -> usize
         let c = n as usize;
         return task(to[c]) % 16;
     }
-    source_of(n)
+    (n % 16) as usize
 }
 
 // Whether step `n` is possible; `full` says which tasks have a full output.
@@ -170,12 +162,4 @@ pub fn note(full: &mut [bool; 16], from: &[u8; 32], counts: &[usize; 32], channe
         note_at(full, from, counts, c);
         c += 1;
     }
-}
-
-// Whether channel `c` is an output of the task.
-pub fn is_from(from: &[u8; 32], c: usize, t: usize) -> bool
-    requires { ⌜ c < 32 ⌝ }
-    ensures { λ r. ⌜ r ≡ eqb (getD (now (from .entry)) c 0) t ⌝ }
-{
-    names(from[c], t)
 }

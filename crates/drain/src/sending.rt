@@ -14,8 +14,8 @@ ghost use Rattle.outputs.specs.Parts.{carriedBy};
 ghost use Rattle.flat.specs.Columns.{headIn, channelIn, channelsIn, Laid, ReadAs};
 ghost use Rattle.drain.specs.Ready.{channelBy};
 ghost use Rattle.drain.specs.Sending.{outputsBy, broughtBy, leftOn, sentAt, sentTo};
-use crate::ready::is_from;
 use channel::Cargo;
+use job::sends::names;
 use kinds::Sending;
 use tally::Record;
 
@@ -27,7 +27,7 @@ pub fn outputs_of(from: &[u8; 32], channels: usize, t: usize) -> u32
     let mut outputs: u32 = 0;
     let mut c: usize = 0;
     while c < channels {
-        outputs += is_from(from, c, t) as u32;
+        outputs += names(from[c], t) as u32;
         c += 1;
     }
     outputs
@@ -128,7 +128,7 @@ fn send_at(
     ensures next { λ r. ⌜ r ≡ place + boolByte (eqb (getD (now (from .entry)) j 0) t) ⌝ }
     ensures sends { λ _. ⌜ (Laid (now (codes .entry)) (now (held .entry)) (now (heads .entry)) (now (counts .entry)) → ReadAs (sentAt kind a b (now (from .entry)) t place outputs got (channelsIn (now (codes .entry)) (now (held .entry)) (now (heads .entry)) (now (counts .entry))) j) (now (codes .exit)) (now (held .exit)) (now (heads .entry)) (now (counts .exit))) ⌝ }
 {
-    if is_from(from, j, t) {
+    if names(from[j], t) {
         carry(
             codes,
             held,

@@ -252,10 +252,6 @@ module _ (codes : List ℕ) (held : List ℤ) (heads counts : List ℕ) (c : ℕ
   unfolding channelIn headIn
   head-at = ap (λ (x : Item). x .cargo) (getD-table (itemIn codes held c (getD heads c 0)) 8 0 barrier (omega arith))
 
-  pub head-there : itemOf (getD codes at 0) (getD held at (pos 0)) .cargo ≡ headIn codes held heads c
-  unfolding headIn itemIn
-  head-there = ap (λ q. itemOf (getD codes q 0) (getD held q (pos 0)) .cargo) (sym first)
-
   pub barrier-there : eqb (getD codes at 0) 0 ≡ barrierIn codes heads c
   unfolding barrierIn
   barrier-there = ap (λ q. eqb (getD codes q 0) 0) (sym first)

@@ -5,16 +5,17 @@ ghost use mathlib.Core.Path.{_≡_};
 ghost use mathlib.Core.List.{List};
 ghost use Prim.Native.Nat.{_<_};
 ghost use lib.IntN.{ℤ};
-ghost use lib.ListN.{set};
+ghost use lib.ListN.{getD, set};
 ghost use Rattle.tally.specs.Totals.{Room, withValue};
 ghost use Rattle.channel.specs.Channels.{withItem, withoutHead};
-ghost use Rattle.flat.specs.Columns.{itemOf, barrierIn, headIn, channelIn, channelsIn, Laid, ReadAs};
+ghost use Rattle.flat.specs.Columns.{itemOf, itemIn, barrierIn, headIn, channelIn, channelsIn, Laid, ReadAs};
 ghost use Rattle.flat.specs.Lays.{codeOf, valueOf};
 
 pub mod laying;
 pub mod reading;
 
 use channel::Cargo;
+use channel::Item;
 use tally::Record;
 use tally::Totals;
 
@@ -31,8 +32,8 @@ pub fn head(codes: &[u16; 256], held: &[i32; 256], heads: &[usize; 32], c: usize
     requires { ⌜ c < 32 ⌝ }
     ensures { λ r. ⌜ r ≡ headIn (now (codes .entry)) (now (held .entry)) (now (heads .entry)) c ⌝ }
 {
-    let p = c * 8 + heads[c] % 8;
-    cargo_of(codes[p], held[p])
+    let item = item_at(codes, held, heads, c, 0);
+    item.cargo
 }
 
 // A cargo by its code and its value.
@@ -46,6 +47,17 @@ fn cargo_of(code: u16, value: i32) -> Cargo
         cylinder: ((code - 1) % 256) as u8,
         value,
     })
+}
+
+// The item at place `k` of channel `c`, counted from its head.
+fn item_at(codes: &[u16; 256], held: &[i32; 256], heads: &[usize; 32], c: usize, k: usize) -> Item
+    requires { ⌜ (c < 32) × (k < 8) ⌝ }
+    ensures { λ r. ⌜ r ≡ itemIn (now (codes .entry)) (now (held .entry)) c (getD (now (heads .entry)) c 0) k ⌝ }
+{
+    let p = c * 8 + (heads[c] % 8 + k) % 8;
+    Item {
+        cargo: cargo_of(codes[p], held[p]),
+    }
 }
 
 // A cargo is stored at place `p` of the columns, and reads as itself.

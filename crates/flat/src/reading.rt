@@ -1,21 +1,9 @@
 // Channels read back from their columns. What `back` is given is written over, place by place.
 ghost use mathlib.Core.Path.{_≡_};
 ghost use Prim.Native.Nat.{_<_};
-ghost use lib.ListN.{getD};
-ghost use Rattle.flat.specs.Columns.{itemIn, channelIn, channelsIn};
-use crate::cargo_of;
+ghost use Rattle.flat.specs.Columns.{channelIn, channelsIn};
+use crate::item_at;
 use channel::Channel;
-use channel::Item;
-
-fn item_at(codes: &[u16; 256], held: &[i32; 256], heads: &[usize; 32], c: usize, k: usize) -> Item
-    requires { ⌜ (c < 32) × (k < 8) ⌝ }
-    ensures { λ r. ⌜ r ≡ itemIn (now (codes .entry)) (now (held .entry)) c (getD (now (heads .entry)) c 0) k ⌝ }
-{
-    let p = c * 8 + (heads[c] % 8 + k) % 8;
-    Item {
-        cargo: cargo_of(codes[p], held[p]),
-    }
-}
 
 fn channel_at(
     codes: &[u16; 256],

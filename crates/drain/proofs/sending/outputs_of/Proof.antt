@@ -19,14 +19,17 @@ loop-holds : tie.Need-loop-holds Inv-loop μ-loop
 unfolding outputsBy
 loop-holds c = search needs
 
-is-from-requires : tie.Need-is-from-requires Inv-loop μ-loop
-is-from-requires c κs = search needs
+element-copy-out-names : tie.Need-element-copy-out-names Inv-loop μ-loop
+element-copy-out-names c = search needs
+
+names-requires : tie.Need-names-requires Inv-loop μ-loop
+names-requires c κs = search needs
 
 cast-outputs : tie.Need-cast-outputs Inv-loop μ-loop
 cast-outputs c = search needs
 
 add-outputs : tie.Need-add-outputs Inv-loop μ-loop
-add-outputs c = omega (arith, byte-le (c .is-from .result))
+add-outputs c = omega (arith, byte-le (c .names .result))
 
 add-c : tie.Need-add-c Inv-loop μ-loop
 add-c c = search needs
@@ -36,7 +39,7 @@ loop-less c = search needs
 
 loop-again : tie.Need-loop-again Inv-loop μ-loop
 unfolding outputsBy
-loop-again c = (search needs, rw add-one (cc), omega (arith, byte-le (c .is-from .result)))
+loop-again c = (search needs, rw add-one (cc), omega (arith, byte-le (c .names .result)))
 
 returns : tie.Need-returns Inv-loop μ-loop
 returns c = c .before .loop .inv .1 ∙ ap (outputsBy _ _) (omega arith)
@@ -48,7 +51,8 @@ outputs-of-spec =
     Inv-loop
     μ-loop
     loop-holds
-    is-from-requires
+    element-copy-out-names
+    names-requires
     cast-outputs
     add-outputs
     add-c

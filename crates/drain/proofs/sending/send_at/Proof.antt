@@ -12,8 +12,11 @@ use borrow.Author.Needs.{needs}
 use Rattle.drain.proofs.sending.send_at.Statement.{statement}
 use Rattle.drain.proofs.sending.send_at.Tie as tie
 
-is-from-requires : tie.Need-is-from-requires
-is-from-requires c κs = search needs
+element-copy-out-names : tie.Need-element-copy-out-names
+element-copy-out-names c = search needs
+
+names-requires : tie.Need-names-requires
+names-requires c κs = search needs
 
 carry-requires : tie.Need-carry-requires
 carry-requires c κs = search needs
@@ -23,9 +26,9 @@ add-result c = search needs
 
 returns : tie.Need-returns
 returns c =
-    let b = c .before .before .before .before .before .before in
+    let b = c .before .before .before .before .before .before .before in
     let a = b .args in
-    let o : eqb (getD (a .from .now) (a .j) 0) (a .t) ≡ true = sym (c .before .before .before .before .before .is-from .ensures) ∙ c .before .before .before .before .if1 .taken in
+    let o : eqb (getD (a .from .now) (a .j) 0) (a .t) ≡ true = sym (c .before .before .before .before .before .names .ensures) ∙ c .before .before .before .before .if1 .taken in
     let ch = channelIn (a .codes .now) (a .held .now) (a .heads .now) (a .counts .now) (a .j) in
     let chans = channelsIn (a .codes .now) (a .held .now) (a .heads .now) (a .counts .now) in (
       simp o,
@@ -38,8 +41,8 @@ returns c =
 
 returns-2 : tie.Need-returns-2
 returns-2 c =
-    let a = c .before .before .args in
-    let o : eqb (getD (a .from .now) (a .j) 0) (a .t) ≡ false = sym (c .before .is-from .ensures) ∙ c .if1 .left in (
+    let a = c .before .before .before .args in
+    let o : eqb (getD (a .from .now) (a .j) 0) (a .t) ≡ false = sym (c .before .names .ensures) ∙ c .if1 .left in (
       simp o (omega arith),
       λ laid. record {
         laid = laid;
@@ -48,4 +51,4 @@ returns-2 c =
     )
 
 pub send-at-spec : {M : Type 1} → statement M
-send-at-spec = tie.close (tie.spec is-from-requires carry-requires add-result returns returns-2)
+send-at-spec = tie.close (tie.spec element-copy-out-names names-requires carry-requires add-result returns returns-2)

@@ -16,18 +16,20 @@ lay-received-requires c κs = search needs
 
 turns-requires : tie.Need-turns-requires
 turns-requires c κs =
-    let b = c .before .before .before .before .before .before .before .before .before .before .before .before .before .before .before .before .before .before .before .before .before .before .before in
-    ((b .pre .0, b .pre .2, b .pre .3), record {
-      run = b .args .t4;
-      stands = record {
-      fits = b .pre .1;
-      of-marked = refl;
-      of-waiting = refl;
-      reads = c .before .before .before .before .before .before .before .before .before .before .before .before .before .before .before .before .lay .ensures (record { of-codes = refl; of-held = refl; of-heads = refl; of-counts = refl });
-      of-live = refl;
-      tells = c .before .before .before .before .before .before .before .before .before .before .before .before .before .before .lay-received .ensures refl;
-    };
-    })
+    let b = c .before .before .before .before .before .before .before .before .before .before .before .before .before .before .before .before .before .before .before .before .before .before .before in (
+      (b .pre .0, b .pre .2, b .pre .3),
+      record {
+        run = b .args .t4;
+        stands = record {
+          fits = b .pre .1;
+          of-marked = refl;
+          of-waiting = refl;
+          reads = c .before .before .before .before .before .before .before .before .before .before .before .before .before .before .before .before .lay .ensures (record { of-codes = refl; of-held = refl; of-heads = refl; of-counts = refl });
+          of-live = refl;
+          tells = c .before .before .before .before .before .before .before .before .before .before .before .before .before .before .lay-received .ensures refl;
+        };
+      },
+    )
 
 back-requires : tie.Need-back-requires
 back-requires c κs = search needs

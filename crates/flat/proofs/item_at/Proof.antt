@@ -1,4 +1,4 @@
--- `flat::reading::item_at` meets its contract.
+-- `flat::item_at` meets its contract.
 use Rattle.flat.proofs.LaidOut.{boxed}
 use Rattle.flat.specs.Columns.{spot, itemOf, itemIn}
 use mir.Val.{SFits}
@@ -9,8 +9,8 @@ use lib.IntN.{pos}
 use native.Mathlib.Omega.{arith}
 use mathlib.Core.Path.{_≡_, refl, sym, ap, ap₂, _∙_, subst}
 use borrow.Author.Needs.{needs}
-use Rattle.flat.proofs.reading.item_at.Statement.{statement}
-use Rattle.flat.proofs.reading.item_at.Tie as tie
+use Rattle.flat.proofs.item_at.Statement.{statement}
+use Rattle.flat.proofs.item_at.Tie as tie
 
 mul-p : tie.Need-mul-p
 mul-p c = search needs
