@@ -82,24 +82,25 @@ pub fn bring(
     Cargo::Barrier
 }
 
-// What a task of the kind puts on its output `c` at `place` of `outputs` for a record that it received.
+// What task `t` puts on its output `c` at `place` of `outputs` for a record that it received.
 fn carry(
     codes: &mut [u16; 256],
     held: &mut [i32; 256],
     heads: &[usize; 32],
     counts: &mut [usize; 32],
+    kinds: &[u8; 16],
+    a: &[i32; 16],
+    b: &[i32; 16],
     c: usize,
-    kind: u8,
-    a: i32,
-    b: i32,
+    t: usize,
     place: u32,
     outputs: u32,
     got: Record,
 )
-    requires { ⌜ (c < 32) × Sendable kind a got ⌝ }
-    ensures { λ _. ⌜ (Laid (now (codes .entry)) (now (held .entry)) (now (heads .entry)) (now (counts .entry)) → ReadAs (set (channelsIn (now (codes .entry)) (now (held .entry)) (now (heads .entry)) (now (counts .entry))) c (carriedBy kind a b place outputs got (channelIn (now (codes .entry)) (now (held .entry)) (now (heads .entry)) (now (counts .entry)) c))) (now (codes .exit)) (now (held .exit)) (now (heads .entry)) (now (counts .exit))) ⌝ }
+    requires { ⌜ (c < 32) × (t < 16) × Sendable (getD (now kinds) t 0) (getD (now a) t (pos 0)) got ⌝ }
+    ensures { λ _. ⌜ (Laid (now (codes .entry)) (now (held .entry)) (now (heads .entry)) (now (counts .entry)) → ReadAs (set (channelsIn (now (codes .entry)) (now (held .entry)) (now (heads .entry)) (now (counts .entry))) c (carriedBy (getD (now (kinds .entry)) t 0) (getD (now (a .entry)) t (pos 0)) (getD (now (b .entry)) t (pos 0)) place outputs got (channelIn (now (codes .entry)) (now (held .entry)) (now (heads .entry)) (now (counts .entry)) c))) (now (codes .exit)) (now (held .exit)) (now (heads .entry)) (now (counts .exit))) ⌝ }
 {
-    let s = kinds::sent(kind, a, b, place, outputs, got);
+    let s = kinds::sent(kinds[t], a[t], b[t], place, outputs, got);
     match s {
         Sending::Nothing => {}
         Sending::One(r) => {
@@ -115,18 +116,18 @@ fn send_at(
     heads: &[usize; 32],
     counts: &mut [usize; 32],
     from: &[u8; 32],
+    kinds: &[u8; 16],
+    a: &[i32; 16],
+    b: &[i32; 16],
     j: usize,
     t: usize,
-    kind: u8,
-    a: i32,
-    b: i32,
     place: u32,
     outputs: u32,
     got: Record,
 ) -> u32
-    requires { ⌜ (j < 32) × (place ≤ j) × Sendable kind a got ⌝ }
+    requires { ⌜ (j < 32) × (t < 16) × (place ≤ j) × Sendable (getD (now kinds) t 0) (getD (now a) t (pos 0)) got ⌝ }
     ensures next { λ r. ⌜ r ≡ place + boolByte (eqb (getD (now (from .entry)) j 0) t) ⌝ }
-    ensures sends { λ _. ⌜ (Laid (now (codes .entry)) (now (held .entry)) (now (heads .entry)) (now (counts .entry)) → ReadAs (sentAt kind a b (now (from .entry)) t place outputs got (channelsIn (now (codes .entry)) (now (held .entry)) (now (heads .entry)) (now (counts .entry))) j) (now (codes .exit)) (now (held .exit)) (now (heads .entry)) (now (counts .exit))) ⌝ }
+    ensures sends { λ _. ⌜ (Laid (now (codes .entry)) (now (held .entry)) (now (heads .entry)) (now (counts .entry)) → ReadAs (sentAt (getD (now (kinds .entry)) t 0) (getD (now (a .entry)) t (pos 0)) (getD (now (b .entry)) t (pos 0)) (now (from .entry)) t place outputs got (channelsIn (now (codes .entry)) (now (held .entry)) (now (heads .entry)) (now (counts .entry))) j) (now (codes .exit)) (now (held .exit)) (now (heads .entry)) (now (counts .exit))) ⌝ }
 {
     if names(from[j], t) {
         carry(
@@ -134,10 +135,11 @@ fn send_at(
             held,
             heads,
             counts,
-            j,
-            kind,
+            kinds,
             a,
             b,
+            j,
+            t,
             place,
             outputs,
             got,
@@ -154,16 +156,16 @@ fn send(
     heads: &[usize; 32],
     counts: &mut [usize; 32],
     from: &[u8; 32],
+    kinds: &[u8; 16],
+    a: &[i32; 16],
+    b: &[i32; 16],
     channels: usize,
     t: usize,
-    kind: u8,
-    a: i32,
-    b: i32,
     outputs: u32,
     got: Record,
 )
-    requires { ⌜ (channels ≤ 32) × Sendable kind a got ⌝ }
-    ensures { λ _. ⌜ (Laid (now (codes .entry)) (now (held .entry)) (now (heads .entry)) (now (counts .entry)) → ReadAs (sentTo kind a b (now (from .entry)) t outputs got (channelsIn (now (codes .entry)) (now (held .entry)) (now (heads .entry)) (now (counts .entry))) channels) (now (codes .exit)) (now (held .exit)) (now (heads .entry)) (now (counts .exit))) ⌝ }
+    requires { ⌜ (channels ≤ 32) × (t < 16) × Sendable (getD (now kinds) t 0) (getD (now a) t (pos 0)) got ⌝ }
+    ensures { λ _. ⌜ (Laid (now (codes .entry)) (now (held .entry)) (now (heads .entry)) (now (counts .entry)) → ReadAs (sentTo (getD (now (kinds .entry)) t 0) (getD (now (a .entry)) t (pos 0)) (getD (now (b .entry)) t (pos 0)) (now (from .entry)) t outputs got (channelsIn (now (codes .entry)) (now (held .entry)) (now (heads .entry)) (now (counts .entry))) channels) (now (codes .exit)) (now (held .exit)) (now (heads .entry)) (now (counts .exit))) ⌝ }
 {
     let mut place: u32 = 0;
     let mut j: usize = 0;
@@ -174,11 +176,11 @@ fn send(
             heads,
             counts,
             from,
-            j,
-            t,
-            kind,
+            kinds,
             a,
             b,
+            j,
+            t,
             place,
             outputs,
             got,
@@ -222,11 +224,11 @@ pub fn forward(
         heads,
         counts,
         from,
+        kinds,
+        a,
+        b,
         channels,
         t,
-        kinds[t],
-        a[t],
-        b[t],
         outputs,
         got,
     );

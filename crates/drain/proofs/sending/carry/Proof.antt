@@ -1,17 +1,38 @@
 -- `drain::sending::carry` meets its contract.
-use Rattle.flat.proofs.Rings.{unmoved}
-use Rattle.flat.specs.Columns.{channelIn, channelsIn, ReadAs}
-use Rattle.outputs.specs.Parts.{carriedBy}
-use Rattle.outputs.specs.Outputs.{putSent}
-use lib.ListN.{set}
-use mir.Facts.{toZ-ofZ}
 use mathlib.Core.Path.{_∙_, ap, sym, subst}
+use lib.IntN.{pos}
+use lib.ListN.{getD, set}
+use mir.Facts.{toZ-ofZ}
+use mir.Syntax.{w32}
+use mir.Val.{SFits}
+use Rattle.outputs.specs.Outputs.{putSent}
+use Rattle.outputs.specs.Parts.{carriedBy}
+use Rattle.flat.specs.Columns.{channelIn, channelsIn, ReadAs}
+use Rattle.flat.proofs.Rings.{unmoved}
 use borrow.Author.Needs.{needs}
 use Rattle.drain.proofs.sending.carry.Statement.{statement}
 use Rattle.drain.proofs.sending.carry.Tie as tie
 
+element-copy-out-sent : tie.Need-element-copy-out-sent
+element-copy-out-sent c = search needs
+
+mul-sent : tie.Need-mul-sent
+mul-sent c = search needs
+
+element-copy-out-sent-2 : tie.Need-element-copy-out-sent-2
+element-copy-out-sent-2 c = search needs
+
+mul-sent-2 : tie.Need-mul-sent-2
+mul-sent-2 c = search needs
+
+element-copy-out-sent-3 : tie.Need-element-copy-out-sent-3
+element-copy-out-sent-3 c = search needs
+
 sent-requires : tie.Need-sent-requires
-sent-requires c κs = search needs
+sent-requires c κs =
+    let b = c .before .before .before in
+    let x : SFits w32 (getD (b .args .a .now) (b .args .t) (pos 0)) = record { sfits = c .before .sent-arg2 .given } in
+    simp (toZ-ofZ x) (b .pre .2)
 
 enum-told : tie.Need-enum-told
 enum-told c = search needs
@@ -25,25 +46,36 @@ put-requires c κs = search needs
 returns : tie.Need-returns
 unfolding carriedBy
 returns c laid =
-    let b = c .before .before .before in
+    let b = c .before .before .before .before .before .before in
     let a = b .args in
+    let x : SFits w32 (getD (a .a .now) (a .t) (pos 0)) = record { sfits = c .before .before .before .before .sent-arg2 .given } in
+    let y : SFits w32 (getD (a .b .now) (a .t) (pos 0)) = record { sfits = c .before .before .before .sent-arg3 .given } in
     unmoved (a .codes .now) (a .held .now) (a .heads .now) (a .counts .now) (a .c) (b .pre .0) laid _
-    (sym (ap (putSent (channelIn (a .codes .now) (a .held .now) (a .heads .now) (a .counts .now) (a .c)))
-    (sym (c .enum-told .given .1) ∙ c .before .before .sent .ensures) ∙ simp (toZ-ofZ (b .fits .a), toZ-ofZ (b .fits .b))))
+    (sym (ap (putSent (channelIn (a .codes .now) (a .held .now) (a .heads .now) (a .counts .now) (a .c))) (sym (c .enum-told .given .1) ∙ c .before .before .sent .ensures) ∙ simp (toZ-ofZ x, toZ-ofZ y)))
 
 returns-2 : tie.Need-returns-2
 unfolding carriedBy
 returns-2 c laid =
-    let sent = c .before .before .before .before .before .before .before in
-    let b = sent .before in
+    let b = c .before .before .before .before .before .before .before .before .before .before .before in
     let a = b .args in
-    subst (λ x. ReadAs (set (channelsIn (a .codes .now) (a .held .now) (a .heads .now) (a .counts .now)) (a .c) x)
-    (c .put .last .0) (c .put .last .1 .0) (a .heads .now) (c .put .last .1 .1 .1 .0))
-    (ap (putSent (channelIn (a .codes .now) (a .held .now) (a .heads .now) (a .counts .now) (a .c)))
-    (sym (c .before .before .before .before .before .s .given .1) ∙ sent .sent .ensures)
-    ∙ simp (toZ-ofZ (b .fits .a), toZ-ofZ (b .fits .b)))
+    let x : SFits w32 (getD (a .a .now) (a .t) (pos 0)) = record { sfits = c .before .before .before .before .before .before .before .before .before .sent-arg2 .given } in
+    let y : SFits w32 (getD (a .b .now) (a .t) (pos 0)) = record { sfits = c .before .before .before .before .before .before .before .before .sent-arg3 .given } in
+    subst (λ z. ReadAs (set (channelsIn (a .codes .now) (a .held .now) (a .heads .now) (a .counts .now)) (a .c) z) (c .put .last .0) (c .put .last .1 .0) (a .heads .now) (c .put .last .1 .1 .1 .0))
+    (ap (putSent (channelIn (a .codes .now) (a .held .now) (a .heads .now) (a .counts .now) (a .c))) (sym (c .before .before .before .before .before .s .given .1) ∙ c .before .before .before .before .before .before .before .sent .ensures) ∙ simp (toZ-ofZ x, toZ-ofZ y))
     (c .put .ensures laid)
 
 pub carry-spec : {M : Type 1} → statement M
 carry-spec =
-    tie.close (tie.spec sent-requires enum-told enum-known-s put-requires returns returns-2)
+    tie.close
+    (tie.spec
+    element-copy-out-sent
+    mul-sent
+    element-copy-out-sent-2
+    mul-sent-2
+    element-copy-out-sent-3
+    sent-requires
+    enum-told
+    enum-known-s
+    put-requires
+    returns
+    returns-2)

@@ -1,12 +1,11 @@
 -- `drain::sending::send_at` meets its contract.
-use mathlib.Core.Path.{_≡_, _∙_, ap₂, sym, subst}
+use mathlib.Core.Path.{_≡_, _∙_, sym, subst}
 use mathlib.Core.Bool.{true, false}
 use native.Mathlib.Omega.{arith}
 use lib.Dec.{eqb}
-use lib.ListN.{getD, set}
-use mir.Facts.{toZ-ofZ}
-use Rattle.outputs.specs.Parts.{carriedBy}
-use Rattle.flat.specs.Columns.{channelIn, channelsIn, ReadAs}
+use lib.IntN.{pos}
+use lib.ListN.{getD}
+use Rattle.flat.specs.Columns.{channelsIn, ReadAs}
 use Rattle.drain.proofs.Sends.{channel-at, sent-here, sent-not}
 use borrow.Author.Needs.{needs}
 use Rattle.drain.proofs.sending.send_at.Statement.{statement}
@@ -29,13 +28,10 @@ returns c =
     let b = c .before .before .before .before .before .before .before in
     let a = b .args in
     let o : eqb (getD (a .from .now) (a .j) 0) (a .t) ≡ true = sym (c .before .before .before .before .before .names .ensures) ∙ c .before .before .before .before .if1 .taken in
-    let ch = channelIn (a .codes .now) (a .held .now) (a .heads .now) (a .counts .now) (a .j) in
     let chans = channelsIn (a .codes .now) (a .held .now) (a .heads .now) (a .counts .now) in (
       simp o,
       λ laid. subst (λ l. ReadAs l (c .carry .last .0) (c .carry .last .1 .0) (a .heads .now) (c .carry .last .1 .1 .1 .0))
-          (ap₂ (λ p q. set chans (a .j) (carriedBy (a .kind) p q (a .place) (a .outputs) (a .got) ch)) (toZ-ofZ (b .fits .a)) (toZ-ofZ (b .fits .b))
-          ∙ sym (sent-here (a .kind) (a .a) (a .b) (a .from .now) (a .t) (a .outputs) (a .got) (a .place) chans (a .j) ch
-          (channel-at (a .codes .now) (a .held .now) (a .heads .now) (a .counts .now) (a .j) (b .pre .0)) o))
+          (sym (sent-here (getD (a .kinds .now) (a .t) 0) (getD (a .a .now) (a .t) (pos 0)) (getD (a .b .now) (a .t) (pos 0)) (a .from .now) (a .t) (a .outputs) (a .got) (a .place) chans (a .j) _ (channel-at (a .codes .now) (a .held .now) (a .heads .now) (a .counts .now) (a .j) (b .pre .0)) o))
           (c .carry .ensures laid),
     )
 
@@ -46,9 +42,11 @@ returns-2 c =
       simp o (omega arith),
       λ laid. record {
         laid = laid;
-        reads = sym (sent-not (a .kind) (a .a) (a .b) (a .from .now) (a .t) (a .outputs) (a .got) (a .place) (channelsIn (a .codes .now) (a .held .now) (a .heads .now) (a .counts .now)) (a .j) o);
+        reads = sym (sent-not (getD (a .kinds .now) (a .t) 0) (getD (a .a .now) (a .t) (pos 0)) (getD (a .b .now) (a .t) (pos 0)) (a .from .now) (a .t) (a .outputs) (a .got) (a .place) (channelsIn (a .codes .now) (a .held .now) (a .heads .now) (a .counts .now)) (a .j) o);
       },
     )
 
 pub send-at-spec : {M : Type 1} → statement M
-send-at-spec = tie.close (tie.spec element-copy-out-names names-requires carry-requires add-result returns returns-2)
+send-at-spec =
+    tie.close
+    (tie.spec element-copy-out-names names-requires carry-requires add-result returns returns-2)
