@@ -15,7 +15,8 @@ use Rattle.drain.specs.Sending.{leftOn}
 use Rattle.flat.specs.Columns.{channelIn}
 use Rattle.drain.specs.Ready.{channelBy, notedBy, notedTo}
 
-pub count-at : (codes : List ℕ) (held : List ℤ) (heads counts : List ℕ) (c : ℕ) → channelIn codes held heads counts c .count ≡ getD counts c 0
+pub count-at : (codes : List ℕ) (held : List ℤ) (heads counts : List ℕ) (c : ℕ) → channelIn codes held heads counts c .count ≡ getD
+    counts c 0
 unfolding channelIn
 count-at codes held heads counts c = refl
 

@@ -61,7 +61,8 @@ record-done : (job : Job) (run : Run) (t c : ℕ) (r : Record) (rest : Channel) 
 unfolding recordReceived
 record-done job run t c r rest f m = simp (f, m)
 
-read-done : (job : Job) (cs vs : List ℤ) (run : Run) (t : ℕ) → isNoSource job t ≡ false → leb (natAbs (bOf job t)) (offsetOf run t) ≡ false
+read-done : (job : Job) (cs vs : List ℤ) (run : Run) (t : ℕ) → isNoSource job t ≡ false → leb (natAbs (bOf job t)) (offsetOf run t) ≡
+    false
     → someFull job (run .channels) t ≡ false → sourceRead job cs vs run t ≡ answered 0 (takenIn job run t (nextRecord job cs vs run t))
 unfolding sourceRead
 read-done job cs vs run t s b f = simp (s, b, f)
@@ -80,12 +81,14 @@ pub record Brings (job : Job) (cs vs : List ℤ) (run : Run) (n : ℕ) (got : Re
   pub room : Room (totalsAt (run .live) (taskBy (job .to) n))
   pub fits : cargoFits (Recorded got) ≡ true
   pub after : stepped job cs vs run n .run
-      ≡ takenIn job (withChannels (set (run .channels) (channelBy n) (leftOn n (channelAt run (channelBy n)))) run) (taskBy (job .to) n) got
+      ≡ takenIn job (withChannels (set (run .channels) (channelBy n) (leftOn n (channelAt run (channelBy n)))) run) (taskBy (job .to) n)
+      got
 
 module _ (job : Job) (cs vs : List ℤ) (run : Run) (n : ℕ) (J : JobFits job (length cs)) (F : Fits job run)
     (p : possible job cs vs run n ≡ true) where
   pub delivers : n < 32 → Delivers (job .channels) n (channelAt run n .count) (flagAt (run .marked) n)
-      (headMoves (job .to) (run .marked) (job .channels) n (isBarrier (headOf (channelAt run n))) (someFull job (run .channels) (toOf job n))
+      (headMoves (job .to) (run .marked) (job .channels) n (isBarrier (headOf (channelAt run n))) (someFull job (run .channels) (toOf
+      job n))
       (totalsAt (run .live) (toOf job n) .count))
   unfolding deliversBy
   delivers l = delivers-says _ _ _ _ _ (sym (delivery-ready job run cs vs n l (F .channels n l .room)) ∙ p)
@@ -117,7 +120,8 @@ module _ (job : Job) (cs vs : List ℤ) (run : Run) (n : ℕ) (J : JobFits job (
           let t = sourceOf n in
           or-first (tasksLeft job run) (channelsLeft job run) (ltb 0 (run .«under_way»))
           (one-some (taskLeft job run) (job .tasks) t (ltb-true t (job .tasks) (a .is-there))
-          (left-is (isSource job t) (ltb (offsetOf run t) (natAbs (bOf job t))) (ltb 0 (countAt (run .waiting) t)) (ltb n 48) (a .is-source)
+          (left-is (isSource job t) (ltb (offsetOf run t) (natAbs (bOf job t))) (ltb 0 (countAt (run .waiting) t)) (ltb n 48) (a
+          .is-source)
           (a .acts)))
 
   -- a read: the source's next record lies within the lent ones

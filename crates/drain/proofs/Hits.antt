@@ -45,7 +45,8 @@ module _ (job : Job) (cs vs : List ℤ) (run : Run) (full : List Bool)
       go false p =
           let small = S .to-task n (leb-false (job .channels) n p) in
           let u : toOf job n % 16 ≡ toOf job n = mod-eq-of-lt (omega (arith, small, S .few-tasks)) in
-          ap₂ (λ f x. deliversBy (job .to) (run .marked) (job .channels) n (channelAt run n .count) (isBarrier (headOf (channelAt run n))) f x)
+          ap₂ (λ f x. deliversBy (job .to) (run .marked) (job .channels) n (channelAt run n .count) (isBarrier (headOf (channelAt run
+          n))) f x)
           (noted (toOf job n % 16) ∙ ap (someFull job (run .channels)) u) (ap (λ k. totalsAt (run .live) k .count) u)
           ∙ sym (delivery-ready job run cs vs n l room)
 
@@ -57,6 +58,7 @@ module _ (job : Job) (cs vs : List ℤ) (run : Run) (full : List Bool)
       ap (actsBy n (ltb t (job .tasks)) (kindOf job t) (bOf job t) (totalsAt (run .live) t .count) (ltb 0 (countAt (run .waiting) t)))
       (noted t) ∙ sym (source-ready job run cs vs n low high)
 
-pub brought-same : (cs vs : List ℤ) (n : ℕ) (head head′ : Cargo) (a a′ : ℤ) (offset offset′ : ℕ) → head ≡ head′ → a ≡ a′ → offset ≡ offset′
+pub brought-same : (cs vs : List ℤ) (n : ℕ) (head head′ : Cargo) (a a′ : ℤ) (offset offset′ : ℕ) → head ≡ head′ → a ≡ a′ → offset ≡
+    offset′
     → broughtBy cs vs n head a offset ≡ broughtBy cs vs n head′ a′ offset′
 brought-same cs vs n head head′ a a′ offset offset′ p q r = cc

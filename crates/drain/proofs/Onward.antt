@@ -30,17 +30,19 @@ use Rattle.drain.proofs.Draining.{goes-on, one-step}
 use Rattle.drain.proofs.Brings.{Brings, brings, brought-inside, possible-left}
 use Rattle.drain.proofs.Hits.{brought-same}
 use Rattle.flat.specs.Columns.{headOf, headIn, channelIn, channelsIn, ReadAs, Tells}
-use Rattle.drain.specs.Turns.{Stands, runOf, Goes, Went, Came}
+use Rattle.drain.specs.Turns.{Stands, runBy, Goes, Went, Came}
 use Rattle.flat.proofs.Rings.{head-at, told}
 use Rattle.drain.proofs.Asking.{channel-small}
 use Rattle.drain.proofs.Steps.{task-small, channel-is, stepped-is}
 
 -- the columns come as those of the run
-pub goes-first : (job : Job) (cs vs : List ℤ) (run : Run) (limit start : ℕ) (marked : List Bool) (waiting : List ℕ) (codes : List ℕ) (held : List ℤ)
-    (heads counts received : List ℕ) (live : List Totals) → start ≤ limit → Stands job marked waiting codes held heads counts received live run
+pub goes-first : (job : Job) (cs vs : List ℤ) (run : Run) (limit start : ℕ) (marked : List Bool) (waiting : List ℕ) (codes : List ℕ)
+    (held : List ℤ)
+    (heads counts received : List ℕ) (live : List Totals) → start ≤ limit → Stands job marked waiting codes held heads counts received
+    live run
     → Goes job cs vs run limit start start codes held heads counts received live
 goes-first job cs vs run limit start marked waiting codes held heads counts received live l x =
-    let e : runOf run (channelsIn codes held heads counts) live ≡ run = ap₂ (runOf run) (x .reads .reads) (sym (x .of-live)) in
+    let e : runBy run (channelsIn codes held heads counts) live ≡ run = ap₂ (runBy run) (x .reads .reads) (sym (x .of-live)) in
     record {
       within = l;
       since = omega arith;
@@ -51,18 +53,20 @@ goes-first job cs vs run limit start marked waiting codes held heads counts rece
     }
 
 -- a turn that goes on: n is the lowest possible step, and the limit is not spent
-pub record Turn (job : Job) (cs vs : List ℤ) (run : Run) (limit start steps : ℕ) (codes : List ℕ) (held : List ℤ) (heads counts received : List ℕ)
+pub record Turn (job : Job) (cs vs : List ℤ) (run : Run) (limit start steps : ℕ) (codes : List ℕ) (held : List ℤ) (heads counts received
+    : List ℕ)
     (live : List Totals) (n : ℕ) : Type 0 where
   pub job-fits : JobFits job (length cs)
   pub records-fit : RecordsFit cs vs
   pub goes : Goes job cs vs run limit start steps codes held heads counts received live
-  pub low : n ≡ lowest job cs vs (runOf run (channelsIn codes held heads counts) live)
+  pub low : n ≡ lowest job cs vs (runBy run (channelsIn codes held heads counts) live)
   pub on : eqb n 64 || eqb steps limit ≡ false
 
-module _ {job : Job} {cs vs : List ℤ} {run : Run} {limit start steps : ℕ} {codes : List ℕ} {held : List ℤ} {heads counts received : List ℕ}
+module _ {job : Job} {cs vs : List ℤ} {run : Run} {limit start steps : ℕ} {codes : List ℕ} {held : List ℤ} {heads counts received : List
+    ℕ}
     {live : List Totals} {n : ℕ} (T : Turn job cs vs run limit start steps codes held heads counts received live n) where
   abbrev now : Run
-  now = runOf run (channelsIn codes held heads counts) live
+  now = runBy run (channelsIn codes held heads counts) live
 
   abbrev k : ℕ
   k = taskBy (job .to) n
@@ -84,11 +88,13 @@ module _ {job : Job} {cs vs : List ℤ} {run : Run} {limit start steps : ℕ} {c
         subst (λ u. (leZ (pos 0) (aOf job u) ≡ true) × (natAbs (aOf job u) + getD received u 0 < length cs)) (sym te)
         (x .0, subst (λ m. natAbs (aOf job k) + m < length cs) (sym received-now) (x .1))
 
-    module _ (got : Record) (e : broughtBy cs vs n (headIn codes held heads (channelBy n)) (getD (job .a) t (pos 0)) (getD received t 0) ≡ Recorded got) where
+    module _ (got : Record) (e : broughtBy cs vs n (headIn codes held heads (channelBy n)) (getD (job .a) t (pos 0)) (getD received t 0)
+        ≡ Recorded got) where
       bring-is : Brings job cs vs now n got
       bring-is =
           brings job cs vs now n (T .job-fits) (T .goes .fits) (going .1) (T .records-fit) got
-          (brought-same cs vs n _ _ _ _ _ _ (ap headOf (sym channel-now) ∙ head-at codes held heads counts (channelBy n)) (ap (aOf job) (sym te))
+          (brought-same cs vs n _ _ _ _ _ _ (ap headOf (sym channel-now) ∙ head-at codes held heads counts (channelBy n)) (ap (aOf job)
+          (sym te))
           (sym received-now ∙ ap (λ u. getD received u 0) (sym te))
           ∙ e)
 
@@ -98,20 +104,24 @@ module _ {job : Job} {cs vs : List ℤ} {run : Run} {limit start steps : ℕ} {c
       pub sendable : Sendable (kindOf job t) (aOf job t) got
       sendable = record { cylinders = cylinder-from-1 got (bring-is .fits); scales = T .job-fits .sends .scales t }
 
-      module _ (outputs : ℕ) (oe : outputs ≡ outputsBy (job .from) t (job .channels)) (y : Totals) (ye : y ≡ withValue (totalsAt live t) (got .value))
+      module _ (outputs : ℕ) (oe : outputs ≡ outputsBy (job .from) t (job .channels)) (y : Totals) (ye : y ≡ withValue (totalsAt live t)
+          (got .value))
           {codes' : List ℕ} {held' : List ℤ} {heads' counts' received' : List ℕ} (re : received' ≡ set received t (y .count))
           (r : ReadAs (sentTo (kindOf job t) (aOf job t) (bOf job t) (job .from) t outputs got
-          (set (channelsIn codes held heads counts) (channelBy n) (leftOn n (channelIn codes held heads counts (channelBy n)))) (job .channels))
+          (set (channelsIn codes held heads counts) (channelBy n) (leftOn n (channelIn codes held heads counts (channelBy n)))) (job
+          .channels))
           codes' held' heads' counts') where
-        after : runOf run (channelsIn codes' held' heads' counts') (set live t y) ≡ stepped job cs vs now n .run
+        after : runBy run (channelsIn codes' held' heads' counts') (set live t y) ≡ stepped job cs vs now n .run
         after =
-            let left = set (channelsIn codes held heads counts) (channelBy n) (leftOn n (channelIn codes held heads counts (channelBy n))) in
+            let left = set (channelsIn codes held heads counts) (channelBy n) (leftOn n (channelIn codes held heads counts (channelBy
+            n))) in
             stepped-is job cs vs now codes held heads counts received refl (T .goes .tells) n got bring-is left
             (channelsIn codes' held' heads' counts') (set live t y)
             (ap (λ ch. set (channelsIn codes held heads counts) (channelBy n) (leftOn n ch)) channel-now)
             (r .reads
             ∙ ap (λ o. sentTo (kindOf job t) (aOf job t) (bOf job t) (job .from) t o got left (job .channels)) oe
-            ∙ ap (λ u. sentTo (kindOf job u) (aOf job u) (bOf job u) (job .from) u (outputsBy (job .from) u (job .channels)) got left (job .channels)) te)
+            ∙ ap (λ u. sentTo (kindOf job u) (aOf job u) (bOf job u) (job .from) u (outputsBy (job .from) u (job .channels)) got left
+            (job .channels)) te)
             (ap (set live t) ye ∙ ap (λ u. set live u (withValue (totalsAt live u) (got .value))) te)
 
         pub goes-more : Goes job cs vs run limit start (steps + 1) codes' held' heads' counts' received' (set live t y)
@@ -123,15 +133,18 @@ module _ {job : Job} {cs vs : List ℤ} {run : Run} {limit start steps : ℕ} {c
               within = omega (arith, going .2);
               since = omega (arith, T .goes .since);
               laid = r .laid;
-              tells = subst (Tells (set live t y)) (sym re) (told live received t y (subst (λ u. u < 16) (sym te) (task-small (job .to) n)) (T .goes .tells));
-              fits = subst (Fits job) (sym next) (stepped-fits job cs vs now (lowest job cs vs now) (T .job-fits) (T .records-fit) (T .goes .fits));
+              tells = subst (Tells (set live t y)) (sym re) (told live received t y (subst (λ u. u < 16) (sym te) (task-small (job .to)
+                  n)) (T .goes .tells));
+              fits = subst (Fits job) (sym next) (stepped-fits job cs vs now (lowest job cs vs now) (T .job-fits) (T .records-fit) (T
+                  .goes .fits));
               rest = ap (drainedOf job cs vs (limit - (steps + 1)) (steps + 1)) next ∙ sym more ∙ T .goes .rest;
             }
 
 -- read back as a run
-pub came : (job : Job) (cs vs : List ℤ) (run : Run) (limit start steps n : ℕ) (codes : List ℕ) (held : List ℤ) (heads counts received : List ℕ)
+pub came : (job : Job) (cs vs : List ℤ) (run : Run) (limit start steps n : ℕ) (codes : List ℕ) (held : List ℤ) (heads counts received :
+    List ℕ)
     (live : List Totals) (next : Run) → Went job cs vs run limit start steps n codes held heads counts received live
-    → next ≡ runOf run (channelsIn codes held heads counts) live → Came job cs vs run limit start steps n next
+    → next ≡ runBy run (channelsIn codes held heads counts) live → Came job cs vs run limit start steps n next
 came job cs vs run limit start steps n codes held heads counts received live next w e = record {
   within = w .goes .within;
   since = w .goes .since;

@@ -138,7 +138,8 @@ module _ (job : Job) (run : Run) where
   unfolding sourceRead isNoSource actsBy
   read-ready cs vs n t high =
       simp (lt-ltb n 48 high, ltb-not t (job .tasks), ltb-not (offsetOf run t) (natAbs (bOf job t)))
-      (read-plain (leb (job .tasks) t) (isSource job t) (leb (natAbs (bOf job t)) (offsetOf run t)) (someFull job (run .channels) t) run _)
+      (read-plain (leb (job .tasks) t) (isSource job t) (leb (natAbs (bOf job t)) (offsetOf run t)) (someFull job (run .channels) t) run
+      _)
 
   sent-ready : (n t : ℕ) → 48 ≤ n → isDone (barrierSent job run t .answer) ≡ sourceReady job run n t
   unfolding barrierSent isNoSource actsBy

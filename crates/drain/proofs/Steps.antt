@@ -76,7 +76,8 @@ module _ (job : Job) (cs vs : List ℤ) (run : Run) (codes : List ℕ) (held : L
 
     -- ONE TEST is the product's test of the step
     abbrev test : ℕ → Bool
-    test = possibleIn codes heads counts received full (job .to) (job .kinds) (job .b) (run .marked) (run .waiting) (job .channels) (job .tasks)
+    test = possibleIn codes heads counts received full (job .to) (job .kinds) (job .b) (run .marked) (run .waiting) (job .channels) (job
+        .tasks)
 
     barrier-at : (n : ℕ) → n < 32 → barrierIn codes heads n ≡ isBarrier (headOf (channelAt run n))
     barrier-at n l = barrier-is codes held heads counts n ∙ ap (λ ch. isBarrier (headOf ch)) (channel-is n l)
@@ -112,12 +113,14 @@ module _ (job : Job) (cs vs : List ℤ) (run : Run) (codes : List ℕ) (held : L
 
     pub stepped-is : (before after : List Channel) (totals : List Totals)
         → before ≡ set (run .channels) (channelBy n) (leftOn n (channelAt run (channelBy n)))
-        → after ≡ sentTo (kindOf job t) (aOf job t) (bOf job t) (job .from) t (outputsBy (job .from) t (job .channels)) got before (job .channels)
+        → after ≡ sentTo (kindOf job t) (aOf job t) (bOf job t) (job .from) t (outputsBy (job .from) t (job .channels)) got before (job
+        .channels)
         → totals ≡ set (run .live) t (withValue (totalsAt (run .live) t) (got .value))
         → withChannels after (withLive totals run) ≡ stepped job cs vs run n .run
     unfolding takenIn
     stepped-is before after totals b e l =
         ap₂ (λ x y. withChannels x (withLive y run))
-        (e ∙ ap₂ (λ o h. sentTo (kindOf job t) (aOf job t) (bOf job t) (job .from) t o got h (job .channels)) (outputs-place job t (job .channels)) b
+        (e ∙ ap₂ (λ o h. sentTo (kindOf job t) (aOf job t) (bOf job t) (job .from) t o got h (job .channels)) (outputs-place job t (job
+        .channels)) b
         ∙ sent-all job t got (set (run .channels) (channelBy n) (leftOn n (channelAt run (channelBy n))))) l
         ∙ sym (brings .after)

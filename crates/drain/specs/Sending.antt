@@ -1,5 +1,6 @@
 -- What a step that takes a record in brings to its task and leaves behind, and how many outputs the task has: by numbers, columns and
--- channels. That they are the step's own is `brings` of proofs/Brings and `sent-all` of proofs/Sends; what goes on each output is `carriedBy`.
+-- channels. That they are the step's own is `brings` of proofs/Brings and `sent-all` of proofs/Sends; what goes on each output is
+-- `carriedBy`.
 use mathlib.Core.Bool.{cond}
 use mathlib.Core.List.{List}
 use Prim.Native.Nat.{ℕ, zero, suc, _+_}

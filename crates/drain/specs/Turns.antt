@@ -14,8 +14,8 @@ use Rattle.drain.specs.Drains.{lowest, drainedOf}
 use Rattle.flat.specs.Columns.{channelsIn, Laid, ReadAs, Tells}
 
 -- a job by its columns
-abbrev pub jobOf : List ℕ → List ℤ → List ℤ → ℕ → List ℕ → List ℕ → ℕ → Job
-jobOf kinds a b tasks from to channels = record {
+abbrev pub jobBy : List ℕ → List ℤ → List ℤ → ℕ → List ℕ → List ℕ → ℕ → Job
+jobBy kinds a b tasks from to channels = record {
   kinds = kinds;
   a = a;
   b = b;
@@ -42,8 +42,8 @@ pub record Standing (job : Job) (marked : List Bool) (waiting : List ℕ)
   pub stands : Stands job marked waiting codes held heads counts received live run
 
 -- a run with these channels and live totals
-abbrev pub runOf : Run → List Channel → List Totals → Run
-runOf run chans live = withChannels chans (withLive live run)
+abbrev pub runBy : Run → List Channel → List Totals → Run
+runBy run chans live = withChannels chans (withLive live run)
 
 -- the drain that goes on from the columns ends as the one that went on from the run
 pub record Goes (job : Job) (cs vs : List ℤ) (run : Run) (limit start steps : ℕ)
@@ -52,15 +52,15 @@ pub record Goes (job : Job) (cs vs : List ℤ) (run : Run) (limit start steps : 
   pub since : start ≤ steps
   pub laid : Laid codes held heads counts
   pub tells : Tells live received
-  pub fits : Fits job (runOf run (channelsIn codes held heads counts) live)
-  pub rest : drainedOf job cs vs (limit - steps) steps (runOf run (channelsIn codes held heads counts) live)
+  pub fits : Fits job (runBy run (channelsIn codes held heads counts) live)
+  pub rest : drainedOf job cs vs (limit - steps) steps (runBy run (channelsIn codes held heads counts) live)
       ≡ drainedOf job cs vs (limit - start) start run
 
 -- and n is the lowest possible step, or 64
 pub record Went (job : Job) (cs vs : List ℤ) (run : Run) (limit start steps n : ℕ)
     (codes : List ℕ) (held : List ℤ) (heads counts received : List ℕ) (live : List Totals) : Type 0 where
   pub goes : Goes job cs vs run limit start steps codes held heads counts received live
-  pub next : n ≡ lowest job cs vs (runOf run (channelsIn codes held heads counts) live)
+  pub next : n ≡ lowest job cs vs (runBy run (channelsIn codes held heads counts) live)
 
 -- the same of a run
 pub record Came (job : Job) (cs vs : List ℤ) (run : Run) (limit start steps n : ℕ) (now : Run) : Type 0 where

@@ -114,8 +114,11 @@ pub fn is_possible(
     n: u16,
 ) -> bool
     requires { ⌜ channels ≤ 32 ⌝ }
-    requires { ⌜ (ltb (sourceOf n) tasks ≡ true → getD (now kinds) (sourceOf n) 0 ≡ 0 → leZ (pos 0) (getD (now b) (sourceOf n) (pos 0)) ≡ true) ⌝ }
-    ensures { λ r. ⌜ r ≡ possibleIn (now (codes .entry)) (now (heads .entry)) (now (counts .entry)) (now (received .entry)) (now (full .entry)) (now (to .entry)) (now (kinds .entry)) (now (b .entry)) (now (marked .entry)) (now (waiting .entry)) channels tasks n ⌝ }
+    requires { ⌜ (ltb (sourceOf n) tasks ≡ true → getD (now kinds) (sourceOf n) 0 ≡ 0 → leZ (pos 0) (getD (now b) (sourceOf n) (pos 0))
+        ≡ true) ⌝ }
+    ensures { λ r. ⌜ r ≡ possibleIn (now (codes .entry)) (now (heads .entry)) (now (counts .entry)) (now (received .entry)) (now (full
+        .entry)) (now (to .entry)) (now (kinds .entry)) (now (b .entry)) (now (marked .entry)) (now (waiting .entry)) channels tasks n
+        ⌝ }
 {
     let t = task_of(to, n);
     if n < 32 {

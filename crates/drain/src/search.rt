@@ -28,7 +28,9 @@ fn find(
 ) -> u16
     requires { ⌜ channels ≤ 32 ⌝ }
     requires { ⌜ ((t : ℕ) → ltb t tasks ≡ true → getD (now kinds) t 0 ≡ 0 → leZ (pos 0) (getD (now b) t (pos 0)) ≡ true) ⌝ }
-    ensures { λ r. ⌜ r ≡ firstFrom 64 0 (possibleIn (now (codes .entry)) (now (heads .entry)) (now (counts .entry)) (now (received .entry)) (now (full .entry)) (now (to .entry)) (now (kinds .entry)) (now (b .entry)) (now (marked .entry)) (now (waiting .entry)) channels tasks) ⌝ }
+    ensures { λ r. ⌜ r ≡ firstFrom 64 0 (possibleIn (now (codes .entry)) (now (heads .entry)) (now (counts .entry)) (now (received
+        .entry)) (now (full .entry)) (now (to .entry)) (now (kinds .entry)) (now (b .entry)) (now (marked .entry)) (now (waiting
+        .entry)) channels tasks) ⌝ }
 {
     let mut i: u16 = 0;
     loop {
@@ -73,7 +75,9 @@ pub fn next(
 ) -> u16
     requires { ⌜ (channels ≤ 32) × ((c : ℕ) → c < channels → getD (now from) c 0 < 16) ⌝ }
     requires { ⌜ ((t : ℕ) → ltb t tasks ≡ true → getD (now kinds) t 0 ≡ 0 → leZ (pos 0) (getD (now b) t (pos 0)) ≡ true) ⌝ }
-    ensures { λ r. ⌜ r ≡ firstFrom 64 0 (possibleIn (now (codes .entry)) (now (heads .entry)) (now (counts .entry)) (now (received .entry)) (notedTo (replicate 16 false) (now (from .entry)) (now (counts .entry)) channels) (now (to .entry)) (now (kinds .entry)) (now (b .entry)) (now (marked .entry)) (now (waiting .entry)) channels tasks) ⌝ }
+    ensures { λ r. ⌜ r ≡ firstFrom 64 0 (possibleIn (now (codes .entry)) (now (heads .entry)) (now (counts .entry)) (now (received
+        .entry)) (notedTo (replicate 16 false) (now (from .entry)) (now (counts .entry)) channels) (now (to .entry)) (now (kinds
+        .entry)) (now (b .entry)) (now (marked .entry)) (now (waiting .entry)) channels tasks) ⌝ }
 {
     let mut full = [false; 16];
     note(&mut full, from, counts, channels);

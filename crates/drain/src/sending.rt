@@ -36,7 +36,8 @@ pub fn outputs_of(from: &[u8; 32], channels: usize, t: usize) -> u32
 // The number of outputs of every task.
 pub fn all_outputs(outs: &mut [u32; 16], from: &[u8; 32], channels: usize)
     requires { ⌜ channels ≤ 32 ⌝ }
-    ensures { λ _. ⌜ (length (now (outs .entry)) ≡ 16 → (t : ℕ) → t < 16 → getD (now (outs .exit)) t 0 ≡ outputsBy (now (from .entry)) t channels) ⌝ }
+    ensures { λ _. ⌜ (length (now (outs .entry)) ≡ 16 → (t : ℕ) → t < 16 → getD (now (outs .exit)) t 0 ≡ outputsBy (now (from .entry))
+        t channels) ⌝ }
 {
     let mut t: usize = 0;
     while t < 16 {
@@ -66,8 +67,10 @@ pub fn bring(
     offset: u32,
 ) -> Cargo
     requires { ⌜ (t < 16) × RecordsFit (now cylinders) (now values) ⌝ }
-    requires { ⌜ (ltb n 32 ≡ false → ltb n 48 ≡ true → (leZ (pos 0) (getD (now a) t (pos 0)) ≡ true) × (natAbs (getD (now a) t (pos 0)) + offset < length (now cylinders))) ⌝ }
-    ensures { λ r. ⌜ r ≡ broughtBy (now (cylinders .entry)) (now (values .entry)) n (headIn (now (codes .entry)) (now (held .entry)) (now (heads .entry)) (channelBy n)) (getD (now (a .entry)) t (pos 0)) offset ⌝ }
+    requires { ⌜ (ltb n 32 ≡ false → ltb n 48 ≡ true → (leZ (pos 0) (getD (now a) t (pos 0)) ≡ true) × (natAbs (getD (now a) t (pos 0))
+        + offset < length (now cylinders))) ⌝ }
+    ensures { λ r. ⌜ r ≡ broughtBy (now (cylinders .entry)) (now (values .entry)) n (headIn (now (codes .entry)) (now (held .entry))
+        (now (heads .entry)) (channelBy n)) (getD (now (a .entry)) t (pos 0)) offset ⌝ }
 {
     if n < 32 {
         return flat::head(codes, held, heads, n as usize);
@@ -98,7 +101,11 @@ fn carry(
     got: Record,
 )
     requires { ⌜ (c < 32) × (t < 16) × Sendable (getD (now kinds) t 0) (getD (now a) t (pos 0)) got ⌝ }
-    ensures { λ _. ⌜ (Laid (now (codes .entry)) (now (held .entry)) (now (heads .entry)) (now (counts .entry)) → ReadAs (set (channelsIn (now (codes .entry)) (now (held .entry)) (now (heads .entry)) (now (counts .entry))) c (carriedBy (getD (now (kinds .entry)) t 0) (getD (now (a .entry)) t (pos 0)) (getD (now (b .entry)) t (pos 0)) place outputs got (channelIn (now (codes .entry)) (now (held .entry)) (now (heads .entry)) (now (counts .entry)) c))) (now (codes .exit)) (now (held .exit)) (now (heads .entry)) (now (counts .exit))) ⌝ }
+    ensures { λ _. ⌜ (Laid (now (codes .entry)) (now (held .entry)) (now (heads .entry)) (now (counts .entry)) → ReadAs (set
+        (channelsIn (now (codes .entry)) (now (held .entry)) (now (heads .entry)) (now (counts .entry))) c (carriedBy (getD (now (kinds
+        .entry)) t 0) (getD (now (a .entry)) t (pos 0)) (getD (now (b .entry)) t (pos 0)) place outputs got (channelIn (now (codes
+        .entry)) (now (held .entry)) (now (heads .entry)) (now (counts .entry)) c))) (now (codes .exit)) (now (held .exit)) (now (heads
+        .entry)) (now (counts .exit))) ⌝ }
 {
     let s = kinds::sent(kinds[t], a[t], b[t], place, outputs, got);
     match s {
@@ -127,7 +134,10 @@ fn send_at(
 ) -> u32
     requires { ⌜ (j < 32) × (t < 16) × (place ≤ j) × Sendable (getD (now kinds) t 0) (getD (now a) t (pos 0)) got ⌝ }
     ensures next { λ r. ⌜ r ≡ place + boolByte (eqb (getD (now (from .entry)) j 0) t) ⌝ }
-    ensures sends { λ _. ⌜ (Laid (now (codes .entry)) (now (held .entry)) (now (heads .entry)) (now (counts .entry)) → ReadAs (sentAt (getD (now (kinds .entry)) t 0) (getD (now (a .entry)) t (pos 0)) (getD (now (b .entry)) t (pos 0)) (now (from .entry)) t place outputs got (channelsIn (now (codes .entry)) (now (held .entry)) (now (heads .entry)) (now (counts .entry))) j) (now (codes .exit)) (now (held .exit)) (now (heads .entry)) (now (counts .exit))) ⌝ }
+    ensures sends { λ _. ⌜ (Laid (now (codes .entry)) (now (held .entry)) (now (heads .entry)) (now (counts .entry)) → ReadAs (sentAt
+        (getD (now (kinds .entry)) t 0) (getD (now (a .entry)) t (pos 0)) (getD (now (b .entry)) t (pos 0)) (now (from .entry)) t place
+        outputs got (channelsIn (now (codes .entry)) (now (held .entry)) (now (heads .entry)) (now (counts .entry))) j) (now (codes
+        .exit)) (now (held .exit)) (now (heads .entry)) (now (counts .exit))) ⌝ }
 {
     if names(from[j], t) {
         carry(
@@ -165,7 +175,10 @@ fn send(
     got: Record,
 )
     requires { ⌜ (channels ≤ 32) × (t < 16) × Sendable (getD (now kinds) t 0) (getD (now a) t (pos 0)) got ⌝ }
-    ensures { λ _. ⌜ (Laid (now (codes .entry)) (now (held .entry)) (now (heads .entry)) (now (counts .entry)) → ReadAs (sentTo (getD (now (kinds .entry)) t 0) (getD (now (a .entry)) t (pos 0)) (getD (now (b .entry)) t (pos 0)) (now (from .entry)) t outputs got (channelsIn (now (codes .entry)) (now (held .entry)) (now (heads .entry)) (now (counts .entry))) channels) (now (codes .exit)) (now (held .exit)) (now (heads .entry)) (now (counts .exit))) ⌝ }
+    ensures { λ _. ⌜ (Laid (now (codes .entry)) (now (held .entry)) (now (heads .entry)) (now (counts .entry)) → ReadAs (sentTo (getD
+        (now (kinds .entry)) t 0) (getD (now (a .entry)) t (pos 0)) (getD (now (b .entry)) t (pos 0)) (now (from .entry)) t outputs got
+        (channelsIn (now (codes .entry)) (now (held .entry)) (now (heads .entry)) (now (counts .entry))) channels) (now (codes .exit))
+        (now (held .exit)) (now (heads .entry)) (now (counts .exit))) ⌝ }
 {
     let mut place: u32 = 0;
     let mut j: usize = 0;
@@ -191,7 +204,10 @@ fn send(
 
 // A delivery takes the head of its channel, a read leaves the channels as they are.
 fn take_for(codes: &mut [u16; 256], heads: &mut [usize; 32], counts: &mut [usize; 32], n: u16)
-    ensures { λ _. ⌜ ((held : List ℤ) → Laid (now (codes .entry)) held (now (heads .entry)) (now (counts .entry)) → ReadAs (set (channelsIn (now (codes .entry)) held (now (heads .entry)) (now (counts .entry))) (channelBy n) (leftOn n (channelIn (now (codes .entry)) held (now (heads .entry)) (now (counts .entry)) (channelBy n)))) (now (codes .exit)) held (now (heads .exit)) (now (counts .exit))) ⌝ }
+    ensures { λ _. ⌜ ((held : List ℤ) → Laid (now (codes .entry)) held (now (heads .entry)) (now (counts .entry)) → ReadAs (set
+        (channelsIn (now (codes .entry)) held (now (heads .entry)) (now (counts .entry))) (channelBy n) (leftOn n (channelIn (now
+        (codes .entry)) held (now (heads .entry)) (now (counts .entry)) (channelBy n)))) (now (codes .exit)) held (now (heads .exit))
+        (now (counts .exit))) ⌝ }
 {
     if n < 32 {
         flat::take(codes, heads, counts, n as usize);
@@ -215,7 +231,11 @@ pub fn forward(
     got: Record,
 )
     requires { ⌜ (channels ≤ 32) × (t < 16) × Sendable (getD (now kinds) t 0) (getD (now a) t (pos 0)) got ⌝ }
-    ensures { λ _. ⌜ (Laid (now (codes .entry)) (now (held .entry)) (now (heads .entry)) (now (counts .entry)) → ReadAs (sentTo (getD (now (kinds .entry)) t 0) (getD (now (a .entry)) t (pos 0)) (getD (now (b .entry)) t (pos 0)) (now (from .entry)) t outputs got (set (channelsIn (now (codes .entry)) (now (held .entry)) (now (heads .entry)) (now (counts .entry))) (channelBy n) (leftOn n (channelIn (now (codes .entry)) (now (held .entry)) (now (heads .entry)) (now (counts .entry)) (channelBy n)))) channels) (now (codes .exit)) (now (held .exit)) (now (heads .exit)) (now (counts .exit))) ⌝ }
+    ensures { λ _. ⌜ (Laid (now (codes .entry)) (now (held .entry)) (now (heads .entry)) (now (counts .entry)) → ReadAs (sentTo (getD
+        (now (kinds .entry)) t 0) (getD (now (a .entry)) t (pos 0)) (getD (now (b .entry)) t (pos 0)) (now (from .entry)) t outputs got
+        (set (channelsIn (now (codes .entry)) (now (held .entry)) (now (heads .entry)) (now (counts .entry))) (channelBy n) (leftOn n
+        (channelIn (now (codes .entry)) (now (held .entry)) (now (heads .entry)) (now (counts .entry)) (channelBy n)))) channels) (now
+        (codes .exit)) (now (held .exit)) (now (heads .exit)) (now (counts .exit))) ⌝ }
 {
     take_for(codes, heads, counts, n);
     send(

@@ -6,7 +6,7 @@ ghost use Rattle.job.specs.Columns.{RecordsFit};
 ghost use Rattle.job.specs.Fits.{JobFits};
 ghost use Rattle.run.specs.declared.Run.{Run};
 ghost use Rattle.run.specs.Fit.{Fits};
-ghost use Rattle.drain.specs.Turns.{jobOf, Stands, Standing, Went, Came};
+ghost use Rattle.drain.specs.Turns.{jobBy, Stands, Standing, Went, Came};
 use crate::ready::task_of;
 use crate::search::next;
 use crate::sending;
@@ -46,9 +46,16 @@ fn turns<'b, 'c>(
     limit: u32,
     start: u32,
 ) -> Turned
-    requires { ⌜ JobFits (jobOf (now kinds) (now a) (now b) tasks (now from) (now to) channels) (length (now cylinders)) × RecordsFit (now cylinders) (now values) × (start ≤ limit) ⌝ }
-    requires { ⌜ Standing (jobOf (now kinds) (now a) (now b) tasks (now from) (now to) channels) (now marked) (now waiting) (now codes) (now held) (now heads) (now counts) (now received) totals ⌝ }
-    ensures { λ r. ⌜ ((run : Run) → Stands (jobOf (now (kinds .entry)) (now (a .entry)) (now (b .entry)) tasks (now (from .entry)) (now (to .entry)) channels) (now (marked .entry)) (now (waiting .entry)) (now (codes .entry)) (now (held .entry)) (now (heads .entry)) (now (counts .entry)) (now (received .entry)) totals run → Went (jobOf (now (kinds .entry)) (now (a .entry)) (now (b .entry)) tasks (now (from .entry)) (now (to .entry)) channels) (now (cylinders .entry)) (now (values .entry)) run limit start (r .steps) (r .n) (now (codes .exit)) (now (held .exit)) (now (heads .exit)) (now (counts .exit)) (now (received .exit)) (r .live)) ⌝ }
+    requires { ⌜ JobFits (jobBy (now kinds) (now a) (now b) tasks (now from) (now to) channels) (length (now cylinders)) × RecordsFit
+        (now cylinders) (now values) × (start ≤ limit) ⌝ }
+    requires { ⌜ Standing (jobBy (now kinds) (now a) (now b) tasks (now from) (now to) channels) (now marked) (now waiting) (now codes)
+        (now held) (now heads) (now counts) (now received) totals ⌝ }
+    ensures { λ r. ⌜ ((run : Run) → Stands (jobBy (now (kinds .entry)) (now (a .entry)) (now (b .entry)) tasks (now (from .entry)) (now
+        (to .entry)) channels) (now (marked .entry)) (now (waiting .entry)) (now (codes .entry)) (now (held .entry)) (now (heads
+        .entry)) (now (counts .entry)) (now (received .entry)) totals run → Went (jobBy (now (kinds .entry)) (now (a .entry)) (now (b
+        .entry)) tasks (now (from .entry)) (now (to .entry)) channels) (now (cylinders .entry)) (now (values .entry)) run limit start
+        (r .steps) (r .n) (now (codes .exit)) (now (held .exit)) (now (heads .exit)) (now (counts .exit)) (now (received .exit)) (r
+        .live)) ⌝ }
 {
     let mut outs = [0u32; 16];
     sending::all_outputs(&mut outs, from, channels);

@@ -34,7 +34,8 @@ module _ {A : Type 0} (d : A) (l : List A) (base : ℕ) (f : ℕ → A) where
   fill-in zero i h fits = absurd (omega arith)
   fill-in (suc k) i h fits = go (λ m. fill-in k i m (omega arith)) (eqb i k) refl
     where
-      go : (i < k → getD (fillTo l base f k) (base + i) d ≡ f i) → (b : Bool) → eqb i k ≡ b → getD (set (fillTo l base f k) (base + k) (f k)) (base + i) d ≡ f i
+      go : (i < k → getD (fillTo l base f k) (base + i) d ≡ f i) → (b : Bool) → eqb i k ≡ b → getD (set (fillTo l base f k) (base + k)
+          (f k)) (base + i) d ≡ f i
       go ih true q =
           let e : i ≡ k = eqb-true i k q in
           ap (λ j. getD (set (fillTo l base f k) (base + k) (f k)) (base + j) d) e
@@ -74,7 +75,8 @@ module _ {A : Type 0} (d : A) (l : List A) (f : ℕ → A) where
       go : (i < n → getD (each n) i d ≡ f i) → (b : Bool) → eqb i n ≡ b → getD (set (each n) n (f n)) i d ≡ f i
       go ih true q =
           let e : i ≡ n = eqb-true i n q in
-          ap (λ j. getD (set (each n) n (f n)) j d) e ∙ getD-set-same (each n) n (f n) d (omega (arith, length-each n, fits)) ∙ ap f (sym e)
+          ap (λ j. getD (set (each n) n (f n)) j d) e ∙ getD-set-same (each n) n (f n) d (omega (arith, length-each n, fits)) ∙ ap f
+          (sym e)
       go ih false q =
           let ne : i ≢ n = eqb-false i n q in
           getD-set-other (each n) n i (f n) d ne ∙ ih (omega arith)
@@ -86,7 +88,8 @@ pub each-list : {A : Type 0} (d : A) (l m : List A) (n : ℕ) → length l ≡ n
 each-list d l m n e q = each-table d l (λ k. getD m k d) n e ∙ as-table d (λ k. getD m k d) n m q (λ k h. refl)
 
 -- ---- a channel that was laid out
-module _ (codes : List ℕ) (held : List ℤ) (heads counts : List ℕ) (c : ℕ) (small : c < 32) (laid : Laid codes held heads counts) (ch : Channel)
+module _ (codes : List ℕ) (held : List ℤ) (heads counts : List ℕ) (c : ℕ) (small : c < 32) (laid : Laid codes held heads counts) (ch :
+    Channel)
     (same : (k : ℕ) → k < 8 → itemOf (codeOf (cargoAt ch k)) (valueOf (cargoAt ch k)) ≡ getD (ch .items) k barrier)
     (wide : length (ch .items) ≡ 8) where
   abbrev w' : List ℕ
@@ -107,7 +110,8 @@ module _ (codes : List ℕ) (held : List ℤ) (heads counts : List ℕ) (c : ℕ
   lay-here : channelIn w' v' (set heads c 0) (set counts c (ch .count)) c ≡ ch
   unfolding channelIn
   lay-here =
-      ap₂ (λ g m. chan (table (itemIn w' v' c g) 8) m) (getD-set-same heads c 0 0 (omega arith)) (getD-set-same counts c (ch .count) 0 (omega arith))
+      ap₂ (λ g m. chan (table (itemIn w' v' c g) 8) m) (getD-set-same heads c 0 0 (omega arith)) (getD-set-same counts c (ch .count) 0
+      (omega arith))
       ∙ ap (λ l. chan l (ch .count)) (as-table barrier (itemIn w' v' c 0) 8 (ch .items) wide item-here)
 
   lay-there : (k : ℕ) → k ≢ c → channelIn w' v' (set heads c 0) (set counts c (ch .count)) k ≡ channelIn codes held heads counts k
@@ -124,7 +128,8 @@ module _ (codes : List ℕ) (held : List ℤ) (heads counts : List ℕ) (c : ℕ
   lay-reads : channelsIn w' v' (set heads c 0) (set counts c (ch .count)) ≡ set (channelsIn codes held heads counts) c ch
   unfolding channelsIn
   lay-reads =
-      stored noChannel (channelIn codes held heads counts) (channelIn w' v' (set heads c 0) (set counts c (ch .count))) 32 c ch small lay-here
+      stored noChannel (channelIn codes held heads counts) (channelIn w' v' (set heads c 0) (set counts c (ch .count))) 32 c ch small
+      lay-here
       (λ k l ne. lay-there k ne)
 
   pub laid-channel : ReadAs (set (channelsIn codes held heads counts) c ch) w' v' (set heads c 0) (set counts c (ch .count))

@@ -19,7 +19,8 @@ use Rattle.channel.specs.Channels.{barrier, withItem, withoutHead}
 use Rattle.tally.specs.Totals.{noTotals}
 use Rattle.run.specs.Runs.{noChannel}
 use Rattle.run.specs.Fit.{totalsAt}
-use Rattle.flat.specs.Columns.{table, headOf, isBarrier, headIn, barrierIn, itemOf, spot, itemIn, channelIn, channelsIn, Laid, ReadAs, Tells}
+use Rattle.flat.specs.Columns.{table, headOf, isBarrier, headIn, barrierIn, itemOf}
+use Rattle.flat.specs.Columns.{spot, itemIn, channelIn, channelsIn, Laid, ReadAs, Tells}
 use Rattle.flat.proofs.Tables.{length-table, getD-table, as-table, stored, table-same}
 
 -- ---- places of the rings
@@ -50,7 +51,8 @@ unfolding itemIn
 at-spot codes held c h k d g j e = ap (λ p. itemOf (getD codes p 0) (getD held p (pos 0))) e
 
 -- a store elsewhere leaves it
-kept-codes : (codes : List ℕ) (held : List ℤ) (p w c h k : ℕ) → spot c h k ≢ p → itemIn (set codes p w) held c h k ≡ itemIn codes held c h k
+kept-codes : (codes : List ℕ) (held : List ℤ) (p w c h k : ℕ) → spot c h k ≢ p → itemIn (set codes p w) held c h k ≡ itemIn codes held c
+    h k
 unfolding itemIn
 kept-codes codes held p w c h k ne = ap (λ x. itemOf x (getD held (spot c h k) (pos 0))) (getD-set-other codes p (spot c h k) w 0 ne)
 
@@ -60,13 +62,15 @@ unfolding itemIn
 kept-both codes held p w v c h k ne =
     ap₂ itemOf (getD-set-other codes p (spot c h k) w 0 ne) (getD-set-other held p (spot c h k) v (pos 0) ne)
 
-barrier-at : (codes : List ℕ) (held : List ℤ) (p c h k : ℕ) → p < length codes → spot c h k ≡ p → itemIn (set codes p 0) held c h k ≡ barrier
+barrier-at : (codes : List ℕ) (held : List ℤ) (p c h k : ℕ) → p < length codes → spot c h k ≡ p → itemIn (set codes p 0) held c h k ≡
+    barrier
 unfolding itemIn
 barrier-at codes held p c h k inside e =
     ap (λ x. itemOf x (getD held (spot c h k) (pos 0)))
     (ap (λ q. getD (set codes p 0) q 0) e ∙ getD-set-same codes p 0 0 inside)
 
-record-at : (codes : List ℕ) (held : List ℤ) (p c h k : ℕ) (r : Record) → p < length codes → p < length held → r .cylinder < 256 → spot c h k ≡ p
+record-at : (codes : List ℕ) (held : List ℤ) (p c h k : ℕ) (r : Record) → p < length codes → p < length held → r .cylinder < 256 → spot
+    c h k ≡ p
     → itemIn (set codes p (r .cylinder + 1)) (set held p (r .value)) c h k ≡ record { cargo = Recorded r }
 unfolding itemIn
 record-at codes held p c h k r inside within small e =
@@ -109,9 +113,13 @@ module _ (codes : List ℕ) (held : List ℤ) (c h : ℕ) where
 
   -- a record is put at the end
   pub grows : (n : ℕ) (r : Record) → n < 8 → spot c h n < length codes → spot c h n < length held → r .cylinder < 256
-      → table (itemIn (set codes (spot c h n) (r .cylinder + 1)) (set held (spot c h n) (r .value)) c h) 8 ≡ set ring n (record { cargo = Recorded r })
+      → table (itemIn (set codes (spot c h n) (r .cylinder + 1)) (set held (spot c h n) (r .value)) c h) 8 ≡ set ring n (record {
+        cargo
+            = Recorded r;
+      })
   grows n r m inside within small =
-      stored barrier (itemIn codes held c h) (itemIn (set codes (spot c h n) (r .cylinder + 1)) (set held (spot c h n) (r .value)) c h) 8 n
+      stored barrier (itemIn codes held c h) (itemIn (set codes (spot c h n) (r .cylinder + 1)) (set held (spot c h n) (r .value)) c h)
+      8 n
       (record { cargo = Recorded r }) m (record-at codes held (spot c h n) c h n r inside within small refl)
       (λ k l ne. kept-both codes held (spot c h n) (r .cylinder + 1) (r .value) c h k (distinct c h k n l m ne))
 
@@ -127,7 +135,8 @@ module _ (codes : List ℕ) (held : List ℤ) (heads counts : List ℕ) (c : ℕ
   n = getD counts c 0
 
   -- ---- nothing is stored
-  pub unmoved : (x : Channel) → x ≡ channelIn codes held heads counts c → ReadAs (set (channelsIn codes held heads counts) c x) codes held heads counts
+  pub unmoved : (x : Channel) → x ≡ channelIn codes held heads counts c → ReadAs (set (channelsIn codes held heads counts) c x) codes
+      held heads counts
   unfolding channelsIn
   unmoved x e = record {
     laid = laid;
@@ -190,7 +199,16 @@ module _ (codes : List ℕ) (held : List ℤ) (heads counts : List ℕ) (c : ℕ
 
     pub takes : ReadAs (set (channelsIn codes held heads counts) c (withoutHead (channelIn codes held heads counts c) .channel))
         codes' held heads' counts'
-    takes = record { laid = record { of-codes = simp length-set (laid .of-codes); of-held = laid .of-held; of-heads = simp length-set (laid .of-heads); of-counts = simp length-set (laid .of-counts) }; reads = take-reads }
+    takes = record {
+      laid = record {
+        of-codes = simp length-set (laid .of-codes);
+        of-held = laid .of-held;
+        of-heads = simp length-set
+            (laid .of-heads);
+        of-counts = simp length-set (laid .of-counts);
+      };
+      reads = take-reads;
+    }
 
   -- ---- a record is put at the end of channel c
   module _ (room : n < 8) (r : Record) (byte : r .cylinder < 256) where
@@ -206,7 +224,9 @@ module _ (codes : List ℕ) (held : List ℤ) (heads counts : List ℕ) (c : ℕ
     abbrev counts'' : List ℕ
     counts'' = set counts c (n + 1)
 
-    put-here : channelIn codes'' held'' heads counts'' c ≡ withItem (channelIn codes held heads counts c) (record { cargo = Recorded r }) .channel
+    put-here : channelIn codes'' held'' heads counts'' c ≡ withItem (channelIn codes held heads counts c) (record {
+      cargo = Recorded r;
+    }) .channel
     unfolding channelIn withItem
     put-here =
         ap₂ chan (grows codes held c hd n r room (omega arith) (omega arith) byte) (getD-set-same counts c (n + 1) 0 (omega arith))
@@ -222,15 +242,28 @@ module _ (codes : List ℕ) (held : List ℤ) (heads counts : List ℕ) (c : ℕ
         (getD-set-other counts c k (n + 1) 0 ne)
 
     put-reads : channelsIn codes'' held'' heads counts''
-        ≡ set (channelsIn codes held heads counts) c (withItem (channelIn codes held heads counts c) (record { cargo = Recorded r }) .channel)
+        ≡ set (channelsIn codes held heads counts) c (withItem (channelIn codes held heads counts c) (record { cargo = Recorded r })
+        .channel)
     unfolding channelsIn
     put-reads =
         stored noChannel (channelIn codes held heads counts) (channelIn codes'' held'' heads counts'') 32 c _ small put-here
         (λ k l ne. put-there k ne)
 
-    pub puts : ReadAs (set (channelsIn codes held heads counts) c (withItem (channelIn codes held heads counts c) (record { cargo = Recorded r }) .channel))
+    pub puts : ReadAs (set (channelsIn codes held heads counts) c (withItem (channelIn codes held heads counts c) (record {
+      cargo =
+          Recorded r;
+    }) .channel))
         codes'' held'' heads counts''
-    puts = record { laid = record { of-codes = simp length-set (laid .of-codes); of-held = simp length-set (laid .of-held); of-heads = laid .of-heads; of-counts = simp length-set (laid .of-counts) }; reads = put-reads }
+    puts = record {
+      laid = record {
+        of-codes = simp length-set (laid .of-codes);
+        of-held = simp length-set (laid .of-held);
+        of-heads =
+            laid .of-heads;
+        of-counts = simp length-set (laid .of-counts);
+      };
+      reads = put-reads;
+    }
 
 -- ---- the head of a channel
 plain : (code : ℕ) (v : ℤ) → eqb code 0 ≡ isBarrier (itemOf code v .cargo)
@@ -262,7 +295,8 @@ module _ (codes : List ℕ) (held : List ℤ) (heads counts : List ℕ) (c : ℕ
       plain (getD codes (spot c (getD heads c 0) 0) 0) (getD held (spot c (getD heads c 0) 0) (pos 0)) ∙ ap isBarrier (sym head-at)
 
 -- ---- how many records a task has received
-pub told : (live : List Totals) (received : List ℕ) (t : ℕ) (x : Totals) → t < 16 → Tells live received → Tells (set live t x) (set received t (x .count))
+pub told : (live : List Totals) (received : List ℕ) (t : ℕ) (x : Totals) → t < 16 → Tells live received → Tells (set live t x) (set
+    received t (x .count))
 told live received t x small T = record {
   of-live = simp length-set (T .of-live);
   of-received = simp length-set (T .of-received);

@@ -30,7 +30,8 @@ module _ {A : Type 0} where
       (λ k h. getD-table f n k d (omega (arith, length-table f n)) ∙ same k (omega (arith, length-table f n)))
 
   -- a table that differs in one place is the other with a store
-  pub stored : (d : A) (f g : ℕ → A) (n c : ℕ) (x : A) → c < n → g c ≡ x → ((k : ℕ) → k < n → k ≢ c → g k ≡ f k) → table g n ≡ set (table f n) c x
+  pub stored : (d : A) (f g : ℕ → A) (n c : ℕ) (x : A) → c < n → g c ≡ x → ((k : ℕ) → k < n → k ≢ c → g k ≡ f k) → table g n ≡ set
+      (table f n) c x
   stored d f g n c x h here there =
       as-table d g n (set (table f n) c x) (length-set (table f n) c x ∙ length-table f n) (λ k l. go k l (eqb k c) refl)
     where

@@ -12,8 +12,10 @@ use tally::Totals;
 // The items of channel `c`.
 fn lay_items(codes: &mut [u16; 256], held: &mut [i32; 256], c: usize, ch: Channel)
     requires { ⌜ c < 32 ⌝ }
-    ensures laid { λ _. ⌜ (now (codes .exit) ≡ fillTo (now (codes .entry)) (c * 8) (λ k. codeOf (cargoAt ch k)) 8) × (now (held .exit) ≡ fillTo (now (held .entry)) (c * 8) (λ k. valueOf (cargoAt ch k)) 8) ⌝ }
-    ensures items { λ _. ⌜ ((k : ℕ) → k < 8 → itemOf (codeOf (cargoAt ch k)) (valueOf (cargoAt ch k)) ≡ getD (ch .items) k barrier) × (length (ch .items) ≡ 8) ⌝ }
+    ensures laid { λ _. ⌜ (now (codes .exit) ≡ fillTo (now (codes .entry)) (c * 8) (λ k. codeOf (cargoAt ch k)) 8) × (now (held .exit)
+        ≡ fillTo (now (held .entry)) (c * 8) (λ k. valueOf (cargoAt ch k)) 8) ⌝ }
+    ensures items { λ _. ⌜ ((k : ℕ) → k < 8 → itemOf (codeOf (cargoAt ch k)) (valueOf (cargoAt ch k)) ≡ getD (ch .items) k barrier) ×
+        (length (ch .items) ≡ 8) ⌝ }
 {
     let items = ch.items;
     let mut k: usize = 0;
@@ -33,7 +35,8 @@ pub fn lay(
     counts: &mut [usize; 32],
     channels: [Channel; 32],
 )
-    ensures { λ _. ⌜ (Laid (now (codes .entry)) (now (held .entry)) (now (heads .entry)) (now (counts .entry)) → ReadAs channels (now (codes .exit)) (now (held .exit)) (now (heads .exit)) (now (counts .exit))) ⌝ }
+    ensures { λ _. ⌜ (Laid (now (codes .entry)) (now (held .entry)) (now (heads .entry)) (now (counts .entry)) → ReadAs channels (now
+        (codes .exit)) (now (held .exit)) (now (heads .exit)) (now (counts .exit))) ⌝ }
 {
     let mut c: usize = 0;
     while c < 32 {

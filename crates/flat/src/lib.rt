@@ -63,7 +63,8 @@ fn item_at(codes: &[u16; 256], held: &[i32; 256], heads: &[usize; 32], c: usize,
 // A cargo is stored at place `p` of the columns, and reads as itself.
 fn store(codes: &mut [u16; 256], held: &mut [i32; 256], p: usize, cargo: Cargo)
     requires { ⌜ p < 256 ⌝ }
-    ensures stored { λ _. ⌜ (now (codes .exit) ≡ set (now (codes .entry)) p (codeOf cargo)) × (now (held .exit) ≡ set (now (held .entry)) p (valueOf cargo)) ⌝ }
+    ensures stored { λ _. ⌜ (now (codes .exit) ≡ set (now (codes .entry)) p (codeOf cargo)) × (now (held .exit) ≡ set (now (held
+        .entry)) p (valueOf cargo)) ⌝ }
     ensures item { λ _. ⌜ itemOf (codeOf cargo) (valueOf cargo) ≡ record { cargo = cargo } ⌝ }
 {
     match cargo {
@@ -83,7 +84,10 @@ fn store(codes: &mut [u16; 256], held: &mut [i32; 256], p: usize, cargo: Cargo)
 // items stays as it is.
 pub fn take(codes: &mut [u16; 256], heads: &mut [usize; 32], counts: &mut [usize; 32], c: usize)
     requires { ⌜ c < 32 ⌝ }
-    ensures { λ _. ⌜ ((held : List ℤ) → Laid (now (codes .entry)) held (now (heads .entry)) (now (counts .entry)) → ReadAs (set (channelsIn (now (codes .entry)) held (now (heads .entry)) (now (counts .entry))) c (withoutHead (channelIn (now (codes .entry)) held (now (heads .entry)) (now (counts .entry)) c) .channel)) (now (codes .exit)) held (now (heads .exit)) (now (counts .exit))) ⌝ }
+    ensures { λ _. ⌜ ((held : List ℤ) → Laid (now (codes .entry)) held (now (heads .entry)) (now (counts .entry)) → ReadAs (set
+        (channelsIn (now (codes .entry)) held (now (heads .entry)) (now (counts .entry))) c (withoutHead (channelIn (now (codes
+        .entry)) held (now (heads .entry)) (now (counts .entry)) c) .channel)) (now (codes .exit)) held (now (heads .exit)) (now
+        (counts .exit))) ⌝ }
 {
     let n = counts[c];
     if 8 < n {
@@ -108,7 +112,10 @@ pub fn put(
     got: Record,
 )
     requires { ⌜ c < 32 ⌝ }
-    ensures { λ _. ⌜ (Laid (now (codes .entry)) (now (held .entry)) (now (heads .entry)) (now (counts .entry)) → ReadAs (set (channelsIn (now (codes .entry)) (now (held .entry)) (now (heads .entry)) (now (counts .entry))) c (withItem (channelIn (now (codes .entry)) (now (held .entry)) (now (heads .entry)) (now (counts .entry)) c) (record { cargo = Cargo.Record got }) .channel)) (now (codes .exit)) (now (held .exit)) (now (heads .entry)) (now (counts .exit))) ⌝ }
+    ensures { λ _. ⌜ (Laid (now (codes .entry)) (now (held .entry)) (now (heads .entry)) (now (counts .entry)) → ReadAs (set
+        (channelsIn (now (codes .entry)) (now (held .entry)) (now (heads .entry)) (now (counts .entry))) c (withItem (channelIn (now
+        (codes .entry)) (now (held .entry)) (now (heads .entry)) (now (counts .entry)) c) (record { cargo = Cargo.Record got })
+        .channel)) (now (codes .exit)) (now (held .exit)) (now (heads .entry)) (now (counts .exit))) ⌝ }
 {
     let n = counts[c];
     if 8 <= n {

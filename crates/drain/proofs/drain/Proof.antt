@@ -30,7 +30,8 @@ going : (c : tie.Else1 Inv-loop μ-loop)
 going c =
     let a = c .before .before .before .before .args in
     let w = c .before .before .records in
-    goes-on (a .job) (a .cylinders .now) (a .values .now) (a .limit) (w .result .steps) (w .result .run) (w .result .n) (w .ensures .within)
+    goes-on (a .job) (a .cylinders .now) (a .values .now) (a .limit) (w .result .steps) (w .result .run) (w .result .n) (w .ensures
+    .within)
     (w .ensures .next) (c .if1 .left)
 
 loop-holds : tie.Need-loop-holds Inv-loop μ-loop
@@ -52,7 +53,8 @@ returns c =
     let a = c .before .before .before .before .before .before .args in
     let l = c .before .before .before .before .before .loop in
     let w = c .before .before .before .before .records in
-    let e = ends (a .job) (a .cylinders .now) (a .values .now) (a .limit) (w .result .steps) (w .result .run) (w .result .n) (w .ensures .within)
+    let e = ends (a .job) (a .cylinders .now) (a .values .now) (a .limit) (w .result .steps) (w .result .run) (w .result .n) (w .ensures
+    .within)
     (w .ensures .next) (c .before .before .if1 .taken) in
     let left = ap (λ x. lastAnswer x (eqb (w .result .steps) (a .limit))) (c .before .some-left .ensures) in
     ap (λ x. ended x (w .result .run) (w .result .steps)) (c .last-answer .ensures ∙ left) ∙ sym e ∙ w .ensures .rest ∙ l .inv .2
@@ -82,8 +84,10 @@ loop-again c =
     let left = possible-left (a .job) cs vs run (w .result .n) (b .pre .0) (w .ensures .fits) (g .1) (g .0) in
     let more = one-step (a .job) cs vs (a .limit) (w .result .steps) run (g .2) left (λ q. omega (arith, g .0, w .ensures .next, q)) in (
       omega (arith, g .2),
-      subst (Fits (a .job)) (sym e) (stepped-fits (a .job) cs vs run (lowest (a .job) cs vs run) (b .pre .0) (b .pre .2) (w .ensures .fits)),
-      ap (drainedOf (a .job) cs vs (a .limit - (w .result .steps + 1)) (w .result .steps + 1)) e ∙ sym more ∙ w .ensures .rest ∙ l .inv .2,
+      subst (Fits (a .job)) (sym e) (stepped-fits (a .job) cs vs run (lowest (a .job) cs vs run) (b .pre .0) (b .pre .2) (w .ensures
+          .fits)),
+      ap (drainedOf (a .job) cs vs (a .limit - (w .result .steps + 1)) (w .result .steps + 1)) e ∙ sym more ∙ w .ensures .rest ∙ l .inv
+          .2,
     )
 
 pub drain-spec : {M : Type 1} → statement M

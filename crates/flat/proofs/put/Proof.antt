@@ -57,10 +57,12 @@ returns-2 c laid =
     let n = getD (a .counts .now) (a .c) 0 in
     let p = spot (a .c) (getD (a .heads .now) (a .c) 0) n in
     let chans = set (channelsIn (a .codes .now) (a .held .now) (a .heads .now) (a .counts .now)) (a .c)
-    (withItem (channelIn (a .codes .now) (a .held .now) (a .heads .now) (a .counts .now) (a .c)) (record { cargo = Recorded (a .got) }) .channel) in
+    (withItem (channelIn (a .codes .now) (a .held .now) (a .heads .now) (a .counts .now) (a .c)) (record { cargo = Recorded (a .got) })
+    .channel) in
     let e = c .store .ensures .0 in
     subst (λ x. ReadAs chans x (c .store .last .1 .0) (a .heads .now) (set (a .counts .now) (a .c) (n + 1))) (sym (e .0))
-    (subst (λ y. ReadAs chans (set (a .codes .now) p (a .got .cylinder + 1)) y (a .heads .now) (set (a .counts .now) (a .c) (n + 1))) (sym (e .1))
+    (subst (λ y. ReadAs chans (set (a .codes .now) p (a .got .cylinder + 1)) y (a .heads .now) (set (a .counts .now) (a .c) (n + 1)))
+    (sym (e .1))
     (puts (a .codes .now) (a .held .now) (a .heads .now) (a .counts .now) (a .c) (b .pre) laid (search needs) (a .got) (search needs)))
 
 pub put-spec : {M : Type 1} → statement M

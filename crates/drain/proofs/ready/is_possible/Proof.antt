@@ -46,7 +46,8 @@ returns c =
     let t = c .before .before .before .before .before .before .task-of in
     c .delivers .ensures
     ∙ ap (λ z. deliversBy (a .to .now) (a .marked .now) (a .channels) (a .n) (getD (a .counts .now) (a .n) 0) z
-    (getD (a .full .now) (t .result) false) (getD (a .received .now) (t .result) 0)) (c .before .before .before .before .is-barrier .ensures)
+    (getD (a .full .now) (t .result) false) (getD (a .received .now) (t .result) 0)) (c .before .before .before .before .is-barrier
+    .ensures)
     ∙ ap (λ k. deliversBy (a .to .now) (a .marked .now) (a .channels) (a .n) (getD (a .counts .now) (a .n) 0)
     (barrierIn (a .codes .now) (a .heads .now) (a .n)) (getD (a .full .now) k false) (getD (a .received .now) k 0)) (t .ensures .0)
     ∙ sym (simp (lt-ltb _ 32 (c .before .before .before .before .before .if1 .taken)))
@@ -80,7 +81,8 @@ acts-requires c κs =
     let x : SFits w32 (getD (a .b .now) (t .result) (pos 0)) = record { sfits = c .before .before .before .acts-arg2 .given } in
     let e : t .result ≡ sourceOf (a .n) = t .ensures .0 ∙ simp (le-ltb _ 32 (c .before .before .before .before .before .if1 .left)) in
     simp (toZ-ofZ x)
-    (subst (λ k. ltb k (a .tasks) ≡ true → getD (a .kinds .now) k 0 ≡ 0 → leZ (pos 0) (getD (a .b .now) k (pos 0)) ≡ true) (sym e) (b .pre .1))
+    (subst (λ k. ltb k (a .tasks) ≡ true → getD (a .kinds .now) k 0 ≡ 0 → leZ (pos 0) (getD (a .b .now) k (pos 0)) ≡ true) (sym e) (b
+    .pre .1))
 
 returns-2 : tie.Need-returns-2
 unfolding possibleIn

@@ -12,7 +12,8 @@ use Rattle.drain.proofs.search.find.Tie as tie
 
 abbrev Inv-loop : tie.InvT-loop
 Inv-loop codes heads counts received full to kinds b marked waiting channels tasks i₀ i =
-    (i ≤ 64) × (firstFrom (64 - i) i (possibleIn codes heads counts received full to kinds b marked waiting channels tasks) ≡ firstFrom 64 0 (possibleIn codes heads counts received full to kinds b marked waiting channels tasks))
+    (i ≤ 64) × (firstFrom (64 - i) i (possibleIn codes heads counts received full to kinds b marked waiting channels tasks) ≡ firstFrom
+    64 0 (possibleIn codes heads counts received full to kinds b marked waiting channels tasks))
 
 abbrev μ-loop : tie.MeasureT-loop
 μ-loop codes heads counts received full to kinds b marked waiting channels tasks i₀ i = 64 - i
@@ -33,22 +34,28 @@ loop-again : tie.Need-loop-again Inv-loop μ-loop
 loop-again c =
     let s = c .before .before .before in
     let a = s .before .args in
-    let test : ℕ → Bool = possibleIn (a .codes .now) (a .heads .now) (a .counts .now) (a .received .now) (a .full .now) (a .to .now) (a .kinds .now) (a .b .now) (a .marked .now) (a .waiting .now) (a .channels) (a .tasks) in
-    let less : s .loop .i < 64 = omega (arith, s .loop .inv .0, c .before .before .if1 .left) in
-    (omega (arith, less), sym (first-miss 64 (s .loop .i) test less (sym (c .before .is-possible .ensures) ∙ c .if2 .left)) ∙ s .loop .inv .1)
+    let test : ℕ → Bool = possibleIn (a .codes .now) (a .heads .now) (a .counts .now) (a .received .now) (a .full .now) (a .to .now) (a
+    .kinds .now) (a .b .now) (a .marked .now) (a .waiting .now) (a .channels) (a .tasks) in
+    let less : s .loop .i < 64 = omega (arith, s .loop .inv .0, c .before .before .if1 .left) in (
+      omega (arith, less),
+      sym (first-miss 64 (s .loop .i) test less (sym (c .before .is-possible .ensures) ∙ c .if2 .left)) ∙ s .loop
+          .inv .1,
+    )
 
 returns : tie.Need-returns Inv-loop μ-loop
 returns c =
     let s = c .before in
     let a = s .before .args in
-    let test : ℕ → Bool = possibleIn (a .codes .now) (a .heads .now) (a .counts .now) (a .received .now) (a .full .now) (a .to .now) (a .kinds .now) (a .b .now) (a .marked .now) (a .waiting .now) (a .channels) (a .tasks) in
+    let test : ℕ → Bool = possibleIn (a .codes .now) (a .heads .now) (a .counts .now) (a .received .now) (a .full .now) (a .to .now) (a
+    .kinds .now) (a .b .now) (a .marked .now) (a .waiting .now) (a .channels) (a .tasks) in
     sym (first-end 64 test) ∙ ap (λ j. firstFrom (64 - j) j test) (sym (c .if1 .taken)) ∙ s .loop .inv .1
 
 returns-2 : tie.Need-returns-2 Inv-loop μ-loop
 returns-2 c =
     let s = c .before .before .before in
     let a = s .before .args in
-    let test : ℕ → Bool = possibleIn (a .codes .now) (a .heads .now) (a .counts .now) (a .received .now) (a .full .now) (a .to .now) (a .kinds .now) (a .b .now) (a .marked .now) (a .waiting .now) (a .channels) (a .tasks) in
+    let test : ℕ → Bool = possibleIn (a .codes .now) (a .heads .now) (a .counts .now) (a .received .now) (a .full .now) (a .to .now) (a
+    .kinds .now) (a .b .now) (a .marked .now) (a .waiting .now) (a .channels) (a .tasks) in
     let less : s .loop .i < 64 = omega (arith, s .loop .inv .0, c .before .before .if1 .left) in
     sym (first-hit 64 (s .loop .i) test less (sym (c .before .is-possible .ensures) ∙ c .if2 .taken)) ∙ s .loop .inv .1
 

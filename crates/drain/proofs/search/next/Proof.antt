@@ -18,7 +18,8 @@ returns : tie.Need-returns
 returns c =
     let a = c .before .before .before .before .args in
     c .find .ensures
-    ∙ ap (λ (full : List Bool). firstFrom 64 0 (possibleIn (a .codes .now) (a .heads .now) (a .counts .now) (a .received .now) full (a .to .now)
+    ∙ ap (λ (full : List Bool). firstFrom 64 0 (possibleIn (a .codes .now) (a .heads .now) (a .counts .now) (a .received .now) full (a
+    .to .now)
     (a .kinds .now) (a .b .now) (a .marked .now) (a .waiting .now) (a .channels) (a .tasks))) (c .before .before .note .ensures)
 
 pub next-spec : {M : Type 1} → statement M

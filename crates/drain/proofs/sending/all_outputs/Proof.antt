@@ -41,7 +41,8 @@ loop-again c =
       omega (arith, less),
       λ e. let x = l .inv .1 e in (
         length-set (l .outs) (l .t) _ ∙ x .0,
-        one-more (l .outs) (l .t) _ (λ u. outputsBy (a .from .now) u (a .channels)) (omega (arith, x .0, less)) (c .outputs-of .ensures) (x .1),
+        one-more (l .outs) (l .t) _ (λ u. outputsBy (a .from .now) u (a .channels)) (omega (arith, x .0, less)) (c .outputs-of .ensures)
+            (x .1),
       ),
     )
 

@@ -51,17 +51,29 @@ returns c laid =
     let x : SFits w32 (getD (a .a .now) (a .t) (pos 0)) = record { sfits = c .before .before .before .before .sent-arg2 .given } in
     let y : SFits w32 (getD (a .b .now) (a .t) (pos 0)) = record { sfits = c .before .before .before .sent-arg3 .given } in
     unmoved (a .codes .now) (a .held .now) (a .heads .now) (a .counts .now) (a .c) (b .pre .0) laid _
-    (sym (ap (putSent (channelIn (a .codes .now) (a .held .now) (a .heads .now) (a .counts .now) (a .c))) (sym (c .enum-told .given .1) ∙ c .before .before .sent .ensures) ∙ simp (toZ-ofZ x, toZ-ofZ y)))
+    (sym (ap (putSent (channelIn (a .codes .now) (a .held .now) (a .heads .now) (a .counts .now) (a .c))) (sym (c .enum-told .given .1)
+    ∙ c .before .before .sent .ensures) ∙ simp (toZ-ofZ x, toZ-ofZ y)))
 
 returns-2 : tie.Need-returns-2
 unfolding carriedBy
 returns-2 c laid =
     let b = c .before .before .before .before .before .before .before .before .before .before .before in
     let a = b .args in
-    let x : SFits w32 (getD (a .a .now) (a .t) (pos 0)) = record { sfits = c .before .before .before .before .before .before .before .before .before .sent-arg2 .given } in
-    let y : SFits w32 (getD (a .b .now) (a .t) (pos 0)) = record { sfits = c .before .before .before .before .before .before .before .before .sent-arg3 .given } in
-    subst (λ z. ReadAs (set (channelsIn (a .codes .now) (a .held .now) (a .heads .now) (a .counts .now)) (a .c) z) (c .put .last .0) (c .put .last .1 .0) (a .heads .now) (c .put .last .1 .1 .1 .0))
-    (ap (putSent (channelIn (a .codes .now) (a .held .now) (a .heads .now) (a .counts .now) (a .c))) (sym (c .before .before .before .before .before .s .given .1) ∙ c .before .before .before .before .before .before .before .sent .ensures) ∙ simp (toZ-ofZ x, toZ-ofZ y))
+    let x : SFits w32 (getD (a .a .now) (a .t) (pos 0)) = record {
+      sfits = c .before .before .before .before .before .before .before
+          .before .before .sent-arg2 .given;
+    } in
+    let y : SFits w32 (getD (a .b .now) (a .t) (pos 0)) = record {
+      sfits = c .before .before .before .before .before .before .before
+          .before .sent-arg3 .given;
+    } in
+    subst (λ z. ReadAs (set (channelsIn (a .codes .now) (a .held .now) (a .heads .now) (a .counts .now)) (a .c) z) (c .put .last .0) (c
+    .put .last .1 .0) (a .heads .now) (c .put .last .1 .1 .1 .0))
+    (ap (putSent (channelIn (a .codes .now) (a .held .now) (a .heads .now) (a .counts .now) (a .c))) (sym (c .before .before .before
+    .before .before .s .given .1) ∙ c .before .before .before .before .before .before .before .sent .ensures) ∙ simp (
+      toZ-ofZ x,
+      toZ-ofZ y,
+    ))
     (c .put .ensures laid)
 
 pub carry-spec : {M : Type 1} → statement M

@@ -19,7 +19,8 @@ returns c laid =
     let a = c .before .before .before .before .before .before .before .before .before .args in
     let taken = c .before .before .before .before .before .take-for in
     let r = taken .ensures (a .held .now) laid in
-    subst (λ l. ReadAs (sentTo (getD (a .kinds .now) (a .t) 0) (getD (a .a .now) (a .t) (pos 0)) (getD (a .b .now) (a .t) (pos 0)) (a .from .now) (a .t) (a .outputs) (a .got) l (a .channels))
+    subst (λ l. ReadAs (sentTo (getD (a .kinds .now) (a .t) 0) (getD (a .a .now) (a .t) (pos 0)) (getD (a .b .now) (a .t) (pos 0)) (a
+    .from .now) (a .t) (a .outputs) (a .got) l (a .channels))
     (c .send .last .0) (c .send .last .1 .0) (taken .last .1 .0) (c .send .last .1 .1 .1 .0)) (r .reads) (c .send .ensures (r .laid))
 
 pub forward-spec : {M : Type 1} → statement M

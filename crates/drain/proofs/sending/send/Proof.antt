@@ -46,11 +46,14 @@ loop-again c =
     let next = c .send-at .ensures .0 in (
       omega (arith, less),
       omega (arith, next, l .inv .1, byte-most (eqb (getD (a .from .now) (l .j) 0) (a .t))),
-      next ∙ ap (λ p. p + boolByte (eqb (getD (a .from .now) (l .j) 0) (a .t))) (l .inv .2) ∙ sym (outputs-more (a .from .now) (a .t) (l .j)),
+      next ∙ ap (λ p. p + boolByte (eqb (getD (a .from .now) (l .j) 0) (a .t))) (l .inv .2) ∙ sym (outputs-more (a .from .now) (a .t) (l
+          .j)),
       λ laid. let so-far = l .inv .3 laid in
           subst (λ x. ReadAs x (c .send-at .last .0) (c .send-at .last .1 .0) (a .heads .now) (c .send-at .last .1 .1 .1 .0))
-          (ap₂ (λ p x. sentAt (getD (a .kinds .now) (a .t) 0) (getD (a .a .now) (a .t) (pos 0)) (getD (a .b .now) (a .t) (pos 0)) (a .from .now) (a .t) p (a .outputs) (a .got) x (l .j)) (l .inv .2) (so-far .reads)
-          ∙ sym (sent-more (getD (a .kinds .now) (a .t) 0) (getD (a .a .now) (a .t) (pos 0)) (getD (a .b .now) (a .t) (pos 0)) (a .from .now) (a .t) (a .outputs) (a .got) (channelsIn (a .codes .now) (a .held .now) (a .heads .now) (a .counts .now)) (l .j)))
+          (ap₂ (λ p x. sentAt (getD (a .kinds .now) (a .t) 0) (getD (a .a .now) (a .t) (pos 0)) (getD (a .b .now) (a .t) (pos 0)) (a
+          .from .now) (a .t) p (a .outputs) (a .got) x (l .j)) (l .inv .2) (so-far .reads)
+          ∙ sym (sent-more (getD (a .kinds .now) (a .t) 0) (getD (a .a .now) (a .t) (pos 0)) (getD (a .b .now) (a .t) (pos 0)) (a .from
+          .now) (a .t) (a .outputs) (a .got) (channelsIn (a .codes .now) (a .held .now) (a .heads .now) (a .counts .now)) (l .j)))
           (c .send-at .ensures .1 (so-far .laid)),
     )
 
@@ -59,7 +62,9 @@ returns c laid =
     let l = c .before .loop in
     let a = c .before .before .args in
     let e : l .j ≡ a .channels = omega (arith, l .inv .0, c .loop-test .left) in
-    subst (λ j. ReadAs (sentTo (getD (a .kinds .now) (a .t) 0) (getD (a .a .now) (a .t) (pos 0)) (getD (a .b .now) (a .t) (pos 0)) (a .from .now) (a .t) (a .outputs) (a .got) (channelsIn (a .codes .now) (a .held .now) (a .heads .now) (a .counts .now)) j) (l .codes) (l .held) (a .heads .now) (l .counts)) e
+    subst (λ j. ReadAs (sentTo (getD (a .kinds .now) (a .t) 0) (getD (a .a .now) (a .t) (pos 0)) (getD (a .b .now) (a .t) (pos 0)) (a
+    .from .now) (a .t) (a .outputs) (a .got) (channelsIn (a .codes .now) (a .held .now) (a .heads .now) (a .counts .now)) j) (l
+    .codes) (l .held) (a .heads .now) (l .counts)) e
     (l .inv .3 laid)
 
 pub send-spec : {M : Type 1} → statement M

@@ -27,11 +27,14 @@ returns : tie.Need-returns
 returns c =
     let b = c .before .before .before .before .before .before .before in
     let a = b .args in
-    let o : eqb (getD (a .from .now) (a .j) 0) (a .t) ≡ true = sym (c .before .before .before .before .before .names .ensures) ∙ c .before .before .before .before .if1 .taken in
+    let o : eqb (getD (a .from .now) (a .j) 0) (a .t) ≡ true = sym (c .before .before .before .before .before .names .ensures) ∙ c
+    .before .before .before .before .if1 .taken in
     let chans = channelsIn (a .codes .now) (a .held .now) (a .heads .now) (a .counts .now) in (
       simp o,
       λ laid. subst (λ l. ReadAs l (c .carry .last .0) (c .carry .last .1 .0) (a .heads .now) (c .carry .last .1 .1 .1 .0))
-          (sym (sent-here (getD (a .kinds .now) (a .t) 0) (getD (a .a .now) (a .t) (pos 0)) (getD (a .b .now) (a .t) (pos 0)) (a .from .now) (a .t) (a .outputs) (a .got) (a .place) chans (a .j) _ (channel-at (a .codes .now) (a .held .now) (a .heads .now) (a .counts .now) (a .j) (b .pre .0)) o))
+          (sym (sent-here (getD (a .kinds .now) (a .t) 0) (getD (a .a .now) (a .t) (pos 0)) (getD (a .b .now) (a .t) (pos 0)) (a .from
+          .now) (a .t) (a .outputs) (a .got) (a .place) chans (a .j) _ (channel-at (a .codes .now) (a .held .now) (a .heads .now) (a
+          .counts .now) (a .j) (b .pre .0)) o))
           (c .carry .ensures laid),
     )
 
@@ -42,7 +45,9 @@ returns-2 c =
       simp o (omega arith),
       λ laid. record {
         laid = laid;
-        reads = sym (sent-not (getD (a .kinds .now) (a .t) 0) (getD (a .a .now) (a .t) (pos 0)) (getD (a .b .now) (a .t) (pos 0)) (a .from .now) (a .t) (a .outputs) (a .got) (a .place) (channelsIn (a .codes .now) (a .held .now) (a .heads .now) (a .counts .now)) (a .j) o);
+        reads = sym (sent-not (getD (a .kinds .now) (a .t) 0) (getD (a .a .now) (a .t) (pos 0)) (getD (a .b .now) (a .t) (pos 0)) (a
+            .from .now) (a .t) (a .outputs) (a .got) (a .place) (channelsIn (a .codes .now) (a .held .now) (a .heads .now) (a .counts
+            .now)) (a .j) o);
       },
     )
 

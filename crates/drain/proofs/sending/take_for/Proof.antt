@@ -15,7 +15,8 @@ returns : tie.Need-returns
 returns c held laid =
     let a = c .before .before .before .before .before .args in
     subst (λ l. ReadAs l (c .take .last .0) held (c .take .last .1 .0) (c .take .last .1 .1 .0))
-    (left-low (channelsIn (a .codes .now) held (a .heads .now) (a .counts .now)) (channelIn (a .codes .now) held (a .heads .now) (a .counts .now))
+    (left-low (channelsIn (a .codes .now) held (a .heads .now) (a .counts .now)) (channelIn (a .codes .now) held (a .heads .now) (a
+    .counts .now))
     (a .n) (c .before .before .before .before .if1 .taken))
     (c .take .ensures held laid)
 

@@ -67,11 +67,15 @@ loop-again c =
       λ laid. let r = l .inv .1 laid in
           subst (λ x. ReadAs x (d .last .0) (d .last .1 .0) (set (l .heads) (l .c) 0) (set (l .counts) (l .c) (ch .count)))
           (ap (λ h. set h (l .c) ch) (r .reads)
-          ∙ sym (each-more noChannel (channelsIn (a .codes .now) (a .held .now) (a .heads .now) (a .counts .now)) (λ k. getD (a .t5) k noChannel) (l .c)))
-          (subst (λ w. ReadAs (set so-far (l .c) ch) w (d .last .1 .0) (set (l .heads) (l .c) 0) (set (l .counts) (l .c) (ch .count))) (sym (e .0 .0))
-          (subst (λ v. ReadAs (set so-far (l .c) ch) (fillTo (l .codes) (l .c * 8) (λ k. codeOf (cargoAt ch k)) 8) v (set (l .heads) (l .c) 0)
+          ∙ sym (each-more noChannel (channelsIn (a .codes .now) (a .held .now) (a .heads .now) (a .counts .now)) (λ k. getD (a .t5) k
+          noChannel) (l .c)))
+          (subst (λ w. ReadAs (set so-far (l .c) ch) w (d .last .1 .0) (set (l .heads) (l .c) 0) (set (l .counts) (l .c) (ch .count)))
+          (sym (e .0 .0))
+          (subst (λ v. ReadAs (set so-far (l .c) ch) (fillTo (l .codes) (l .c * 8) (λ k. codeOf (cargoAt ch k)) 8) v (set (l .heads) (l
+          .c) 0)
           (set (l .counts) (l .c) (ch .count))) (sym (e .0 .1))
-          (laid-channel (l .codes) (l .held) (l .heads) (l .counts) (l .c) (c .before .before .before .before .loop-test .taken) (r .laid) ch (e .1 .0) (e .1 .1)))),
+          (laid-channel (l .codes) (l .held) (l .heads) (l .counts) (l .c) (c .before .before .before .before .loop-test .taken) (r
+          .laid) ch (e .1 .0) (e .1 .1)))),
     )
 
 returns : tie.Need-returns Inv-loop μ-loop
@@ -81,8 +85,10 @@ returns c laid =
     let a = c .before .before .args in
     let e : l .c ≡ 32 = omega (arith, l .inv .0, c .loop-test .left) in
     subst (λ x. ReadAs x (l .codes) (l .held) (l .heads) (l .counts))
-    (ap (eachPlace noChannel (λ k x. getD (a .t5) k noChannel) (channelsIn (a .codes .now) (a .held .now) (a .heads .now) (a .counts .now))) e
-    ∙ each-list noChannel (channelsIn (a .codes .now) (a .held .now) (a .heads .now) (a .counts .now)) (a .t5) 32 (length-table (channelIn (a .codes .now) (a .held .now) (a .heads .now) (a .counts .now)) 32) (search (needs, counted)))
+    (ap (eachPlace noChannel (λ k x. getD (a .t5) k noChannel) (channelsIn (a .codes .now) (a .held .now) (a .heads .now) (a .counts
+    .now))) e
+    ∙ each-list noChannel (channelsIn (a .codes .now) (a .held .now) (a .heads .now) (a .counts .now)) (a .t5) 32 (length-table
+    (channelIn (a .codes .now) (a .held .now) (a .heads .now) (a .counts .now)) 32) (search (needs, counted)))
     (l .inv .1 laid)
 
 pub lay-spec : {M : Type 1} → statement M

@@ -45,8 +45,15 @@ loop-again c =
     let a = c .before .before .before .args in
     let less = c .before .loop-test .taken in (
       omega (arith, less),
-      λ e. let x = l .inv .1 e in
-          (length-set (l .received) (l .t) _ ∙ x .0, one-more (l .received) (l .t) _ (λ u. totalsAt (a .t2) u .count) (omega (arith, x .0, less)) refl (x .1)),
+      λ e. let x = l .inv .1 e in (
+        length-set (l .received) (l .t) _ ∙ x .0,
+        one-more (l .received) (l .t) _ (λ u. totalsAt (a .t2) u .count) (omega (
+          arith,
+          x
+              .0,
+          less,
+        )) refl (x .1),
+      ),
     )
 
 returns : tie.Need-returns Inv-loop μ-loop

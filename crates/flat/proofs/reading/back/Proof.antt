@@ -42,7 +42,8 @@ loop-again c =
     let l = c .before .before .loop in
     let a = c .before .before .before .args in (
       omega (arith, c .before .loop-test .taken),
-      ap₂ (λ z x. set z (l .c) x) (l .inv .1) (c .channel-at .ensures) ∙ sym (each-more noChannel (a .channels) (channelIn (a .codes .now) (a .held .now) (a .heads .now) (a .counts .now)) (l .c)),
+      ap₂ (λ z x. set z (l .c) x) (l .inv .1) (c .channel-at .ensures) ∙ sym (each-more noChannel (a .channels) (channelIn (a .codes
+          .now) (a .held .now) (a .heads .now) (a .counts .now)) (l .c)),
     )
 
 returns : tie.Need-returns Inv-loop μ-loop
@@ -53,7 +54,10 @@ returns c =
     let e : l .c ≡ 32 = omega (arith, l .inv .0, c .loop-test .left) in
     l .inv .1
     ∙ ap (eachPlace noChannel (λ k x. channelIn (a .codes .now) (a .held .now) (a .heads .now) (a .counts .now) k) (a .channels)) e
-    ∙ each-table noChannel (a .channels) (channelIn (a .codes .now) (a .held .now) (a .heads .now) (a .counts .now)) 32 (search (needs, counted))
+    ∙ each-table noChannel (a .channels) (channelIn (a .codes .now) (a .held .now) (a .heads .now) (a .counts .now)) 32 (search (
+      needs,
+      counted,
+    ))
 
 pub back-spec : {M : Type 1} → statement M
 back-spec =

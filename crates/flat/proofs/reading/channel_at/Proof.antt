@@ -36,7 +36,19 @@ element-copy-out-t18 c = search needs
 
 returns : tie.Need-returns
 unfolding channelIn table
-returns c = simp (c .before .before .before .before .before .before .before .before .item-at .ensures, c .before .before .before .before .before .before .before .item-at2 .ensures, c .before .before .before .before .before .before .item-at3 .ensures, c .before .before .before .before .before .item-at4 .ensures, c .before .before .before .before .item-at5 .ensures, c .before .before .before .item-at6 .ensures, c .before .before .item-at7 .ensures, c .before .item-at8 .ensures)
+returns c = simp (
+  c .before .before .before .before .before .before .before .before .item-at .ensures,
+  c .before .before .before .before
+      .before .before .before .item-at2 .ensures,
+  c .before .before .before .before .before .before .item-at3 .ensures,
+  c .before .before
+      .before .before .before .item-at4 .ensures,
+  c .before .before .before .before .item-at5 .ensures,
+  c .before .before .before
+      .item-at6 .ensures,
+  c .before .before .item-at7 .ensures,
+  c .before .item-at8 .ensures,
+)
 
 pub channel-at-spec : {M : Type 1} → statement M
 channel-at-spec =
