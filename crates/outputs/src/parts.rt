@@ -1,5 +1,5 @@
 // Parts of a step told by numbers, columns and one channel, so that a loop over the channels passes on neither a job nor all channels.
-// The drain works in place by the same parts.
+// The drain's test of a step asks `all_marked` too.
 ghost use mathlib.Core.Path.{_≡_};
 ghost use mathlib.Core.Bool.{true};
 ghost use Prim.Native.Nat.{_≤_};

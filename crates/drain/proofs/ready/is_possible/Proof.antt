@@ -11,33 +11,33 @@ use mir.Syntax.{w32}
 use mir.Val.{SFits}
 use Rattle.flat.specs.Columns.{barrierIn}
 use Rattle.drain.specs.Ready.{deliversBy, sourceOf, actsBy, possibleIn}
-use borrow.Author.Needs.{needs}
+use native.Mathlib.Omega.{arith}
 use Rattle.drain.proofs.ready.is_possible.Statement.{statement}
 use Rattle.drain.proofs.ready.is_possible.Tie as tie
 
 task-of-requires : tie.Need-task-of-requires
-task-of-requires c κs = search needs
+task-of-requires c κs = tt
 
 is-barrier-requires : tie.Need-is-barrier-requires
-is-barrier-requires c κs = search needs
+is-barrier-requires c κs = c .if1 .taken
 
 mul-delivers : tie.Need-mul-delivers
-mul-delivers c = search needs
+mul-delivers c = omega (arith, c .before .if1 .taken)
 
 element-copy-out-delivers : tie.Need-element-copy-out-delivers
-element-copy-out-delivers c = search needs
+element-copy-out-delivers c = c .before .if1 .taken
 
 element-copy-out-delivers-2 : tie.Need-element-copy-out-delivers-2
-element-copy-out-delivers-2 c = search needs
+element-copy-out-delivers-2 c = c .before .before .before .task-of .ensures .1
 
 mul-delivers-2 : tie.Need-mul-delivers-2
-mul-delivers-2 c = search needs
+mul-delivers-2 c = omega (arith, c .before .before .before .before .task-of .ensures .1)
 
 element-copy-out-delivers-3 : tie.Need-element-copy-out-delivers-3
-element-copy-out-delivers-3 c = search needs
+element-copy-out-delivers-3 c = c .before .before .before .before .task-of .ensures .1
 
 delivers-requires : tie.Need-delivers-requires
-delivers-requires c κs = search needs
+delivers-requires c κs = (c .before .before .before .before .before .before .pre .0, c .before .before .before .before .if1 .taken)
 
 returns : tie.Need-returns
 unfolding possibleIn
@@ -53,25 +53,25 @@ returns c =
     ∙ sym (simp (lt-ltb _ 32 (c .before .before .before .before .before .if1 .taken)))
 
 element-copy-out-acts : tie.Need-element-copy-out-acts
-element-copy-out-acts c = search needs
+element-copy-out-acts c = c .before .task-of .ensures .1
 
 mul-acts : tie.Need-mul-acts
-mul-acts c = search needs
+mul-acts c = omega (arith, c .before .before .task-of .ensures .1)
 
 element-copy-out-acts-2 : tie.Need-element-copy-out-acts-2
-element-copy-out-acts-2 c = search needs
+element-copy-out-acts-2 c = c .before .before .task-of .ensures .1
 
 mul-acts-2 : tie.Need-mul-acts-2
-mul-acts-2 c = search needs
+mul-acts-2 c = omega (arith, c .before .before .before .task-of .ensures .1)
 
 element-copy-out-acts-3 : tie.Need-element-copy-out-acts-3
-element-copy-out-acts-3 c = search needs
+element-copy-out-acts-3 c = c .before .before .before .task-of .ensures .1
 
 element-copy-out-acts-4 : tie.Need-element-copy-out-acts-4
-element-copy-out-acts-4 c = search needs
+element-copy-out-acts-4 c = c .before .before .before .before .task-of .ensures .1
 
 element-copy-out-acts-5 : tie.Need-element-copy-out-acts-5
-element-copy-out-acts-5 c = search needs
+element-copy-out-acts-5 c = c .before .before .before .before .before .task-of .ensures .1
 
 acts-requires : tie.Need-acts-requires
 acts-requires c κs =

@@ -9,24 +9,25 @@ use Rattle.outputs.specs.Outputs.{putSent}
 use Rattle.outputs.specs.Parts.{carriedBy}
 use Rattle.flat.specs.Columns.{channelIn, channelsIn, ReadAs}
 use Rattle.flat.proofs.Rings.{unmoved}
+use native.Mathlib.Omega.{arith}
 use borrow.Author.Needs.{needs}
 use Rattle.drain.proofs.sending.carry.Statement.{statement}
 use Rattle.drain.proofs.sending.carry.Tie as tie
 
 element-copy-out-sent : tie.Need-element-copy-out-sent
-element-copy-out-sent c = search needs
+element-copy-out-sent c = c .pre .1
 
 mul-sent : tie.Need-mul-sent
-mul-sent c = search needs
+mul-sent c = omega (arith, c .before .pre .1)
 
 element-copy-out-sent-2 : tie.Need-element-copy-out-sent-2
-element-copy-out-sent-2 c = search needs
+element-copy-out-sent-2 c = c .before .pre .1
 
 mul-sent-2 : tie.Need-mul-sent-2
-mul-sent-2 c = search needs
+mul-sent-2 c = omega (arith, c .before .before .pre .1)
 
 element-copy-out-sent-3 : tie.Need-element-copy-out-sent-3
-element-copy-out-sent-3 c = search needs
+element-copy-out-sent-3 c = c .before .before .pre .1
 
 sent-requires : tie.Need-sent-requires
 sent-requires c κs =
