@@ -22,7 +22,7 @@ loop-holds : tie.Need-loop-holds Inv-loop μ-loop
 loop-holds c = (omega arith, refl)
 
 is-possible-requires : tie.Need-is-possible-requires Inv-loop μ-loop
-is-possible-requires c κs = (c .before .before .pre .0, c .before .before .pre .1 (sourceOf (c .before .loop .i)))
+is-possible-requires c κs = (c .before .before .pre .0, c .before .before .pre .1 (sourceOf _))
 
 add-i : tie.Need-add-i Inv-loop μ-loop
 add-i c = omega (arith, c .before .before .before .loop .inv .0)
