@@ -1,4 +1,6 @@
 // A channel: a bounded first-in first-out queue of items (document 01, "The job" and "The step rules").
+#![tactic(auto)]
+
 ghost use Rattle.std.specs.Prelude.{◌≡◌};
 ghost use Rattle.channel.specs.Channels.{barrier, empty_channel, with_item, without_head};
 
@@ -14,31 +16,31 @@ pub const FULL: u8 = 14;
 
 pub const DOES_NOT_FIT: u8 = 16;
 
-#[derive(Drop)]
+#[derive(Clone, Copy)]
 pub enum Cargo {
     Barrier,
     Record(Record),
 }
 
-#[derive(Drop)]
+#[derive(Clone, Copy)]
 pub struct Item {
     pub cargo: Cargo,
 }
 
 // The first `count` places are held, the head at place 0.
-#[derive(Drop)]
+#[derive(Clone, Copy)]
 pub struct Channel {
     pub items: [Item; 8],
     pub count: usize,
 }
 
-#[derive(Drop)]
+#[derive(Clone, Copy)]
 pub struct Added {
     pub channel: Channel,
     pub answer: u8,
 }
 
-#[derive(Drop)]
+#[derive(Clone, Copy)]
 pub struct Taken {
     pub channel: Channel,
     pub item: Item,

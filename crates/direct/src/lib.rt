@@ -1,4 +1,6 @@
 // Direct evaluation (document 01): what each task receives when each source reads so many of its records, as totals.
+#![tactic(auto)]
+
 ghost use Rattle.std.specs.Prelude.{◌≡◌, ◌<◌};
 ghost use Rattle.job.specs.Columns.{columns};
 ghost use Rattle.job.specs.Jobs.{JobSized};
@@ -12,7 +14,7 @@ mod walk;
 pub const BAD_COUNTS: u8 = 35;
 
 // The totals of every task; zero past the job's tasks, and with a refusal.
-#[derive(Drop)]
+#[derive(Clone, Copy)]
 pub struct Directed {
     pub totals: [Totals; 16],
     pub answer: u8,

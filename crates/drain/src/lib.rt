@@ -1,4 +1,6 @@
 // The drain.
+#![tactic(auto)]
+
 ghost use Rattle.std.specs.Prelude.{◌≡◌, length};
 ghost use Rattle.job.specs.Columns.{RecordsFit};
 ghost use Rattle.job.specs.Fits.{JobFits};
@@ -15,7 +17,7 @@ mod turns;
 use job::Job;
 use run::Run;
 
-#[derive(Drop)]
+#[derive(Clone, Copy)]
 pub struct Drained {
     pub run: Run,
     pub answer: u8,

@@ -15,7 +15,7 @@ use job::Job;
 use run::Run;
 use tally::Totals;
 
-#[derive(Drop)]
+#[derive(Clone, Copy)]
 pub struct Turned {
     pub live: [Totals; 16],
     pub n: u16,
@@ -82,7 +82,7 @@ fn turns<'b, 'c>(
     }
 }
 
-#[derive(Drop)]
+#[derive(Clone, Copy)]
 pub struct Stopped {
     pub run: Run,
     pub n: u16,

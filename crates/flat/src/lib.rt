@@ -1,6 +1,8 @@
 // A run laid flat: its channels as columns of numbers, which are lent and never copied, with how many records each task has received. A
 // loop works on them in small functions, and a host in C can lend the same columns. Here stand the operations on one channel and on one
 // task; `laying` lays a run out, `reading` reads its channels back.
+#![tactic(auto)]
+
 ghost use Rattle.std.specs.Prelude.{◌≡◌, List, ◌<◌, ℤ, get_or, set};
 ghost use Rattle.tally.specs.Totals.{Room, with_value};
 ghost use Rattle.channel.specs.Channels.{with_item, without_head};

@@ -1,4 +1,6 @@
 // The check of a job that comes as seven lent columns: answers 1 to 9 in document 01's order, and the job by value.
+#![tactic(auto)]
+
 ghost use Rattle.std.specs.Prelude.{◌≡◌, length};
 ghost use Rattle.job.specs.Columns.{columns, tasks_and_channels};
 ghost use Rattle.job.specs.Jobs.{job_of, Small, JobSized};
@@ -12,7 +14,7 @@ mod value;
 pub const ACCEPTED: u8 = 0;
 
 // A job by value. Places past the tasks and the channels hold 0.
-#[derive(Drop)]
+#[derive(Clone, Copy)]
 pub struct Job {
     pub kinds: [u8; 16],
     pub a: [i32; 16],
@@ -23,7 +25,7 @@ pub struct Job {
     pub channels: usize,
 }
 
-#[derive(Drop)]
+#[derive(Clone, Copy)]
 pub struct Checked {
     pub job: Job,
     pub answer: u8,

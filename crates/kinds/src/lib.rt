@@ -1,4 +1,6 @@
 // What a task of each kind sends for one record on one of its outputs (document 01, the table of kinds).
+#![tactic(auto)]
+
 ghost use Rattle.std.specs.Prelude.{◌≡◌, ◌≤◌};
 ghost use Rattle.kinds.specs.Kinds.{scaled, within, is_place, one_if, sent_on, Scales, Sendable};
 
@@ -16,7 +18,7 @@ pub const CYLINDER: u8 = 4;
 
 pub const SPREAD: u8 = 5;
 
-#[derive(Drop)]
+#[derive(Clone, Copy)]
 pub enum Sending {
     Nothing,
     One(Record),

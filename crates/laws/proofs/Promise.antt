@@ -38,7 +38,7 @@ module _ (J : Job) (A : Accepted J) where
   -- where a record is to be delivered its task's count is below the bound
   pub not_full : NeverFull J
   not_full s I d r rest ld hd =
-      A.Full-is (s.live (to d)) ∙ ne_eqb (A.count.map (s.live (to d))) 1_048_576
+      A.full_is (s.live (to d)) ∙ ne_eqb (A.count.map (s.live (to d))) 1_048_576
       (let a : A.count.map (s.live (to d)) < worst g (λ t. length (part t)) depth (to d) =
       never_full J A.count A.counts_one (λ t. length (part t)) le_self A.sends_one s I d ld r rest hd in
       omega (arith, A.worst_ok (to d) (G.to_ok d ld)))

@@ -1,4 +1,6 @@
 // A list of steps.
+#![tactic(auto)]
+
 ghost use Rattle.std.specs.Prelude.{◌≡◌, ◌<◌, length};
 ghost use Rattle.job.specs.Columns.{RecordsFit};
 ghost use Rattle.job.specs.Fits.{JobFits};
@@ -9,7 +11,7 @@ ghost use Rattle.lists.specs.Lists.{is_done, counted, listed_to};
 use job::Job;
 use run::Run;
 
-#[derive(Drop)]
+#[derive(Clone, Copy)]
 pub struct Listed {
     pub run: Run,
     pub answer: u8,

@@ -1,4 +1,6 @@
 // A task's outputs and inputs: full, marked, and what is put on every output.
+#![tactic(auto)]
+
 ghost use Rattle.std.specs.Prelude.{◌≡◌, true, ◌<◌};
 ghost use Rattle.job.specs.Jobs.{JobSized};
 ghost use Rattle.job.specs.Fits.{Sends};

@@ -1,4 +1,6 @@
 // Rows written into a lent buffer: each function writes at `at` and answers the place after what it wrote.
+#![tactic(auto)]
+
 ghost use Rattle.std.specs.Prelude.{◌≡◌, true, ◌++◌, ◌∷◌, ◌≤◌, ◌<◌, ◌+◌, ◌-◌, length, pos, negsuc};
 ghost use Rattle.std.specs.Int.Signed.{lt_z};
 ghost use Rattle.rows.specs.Buffers.{Puts};

@@ -1,4 +1,6 @@
 // A run: what the channels hold, marks and waiting barriers, and the live, half-taken and last complete totals.
+#![tactic(auto)]
+
 ghost use Rattle.std.specs.Prelude.{◌≡◌};
 ghost use Rattle.run.specs.Runs.{fresh_run};
 
@@ -7,7 +9,7 @@ pub mod fit;
 use channel::Channel;
 use tally::Totals;
 
-#[derive(Drop)]
+#[derive(Clone, Copy)]
 pub struct Run {
     pub channels: [Channel; 32],
     pub marked: [bool; 32],

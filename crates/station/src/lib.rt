@@ -1,4 +1,6 @@
 // The entry points, over any columns, run and numbers. None has a `requires`: each checks 1 to 9 first, then 16, then answers its own.
+#![tactic(auto)]
+
 ghost use Rattle.std.specs.Prelude.{◌≡◌};
 ghost use Rattle.job.specs.Columns.{columns};
 ghost use Rattle.job.specs.Rules.{job_answer};

@@ -1,4 +1,6 @@
 // One step of a run, by its number.
+#![tactic(auto)]
+
 ghost use Rattle.std.specs.Prelude.{◌≡◌, length};
 ghost use Rattle.job.specs.Columns.{RecordsFit};
 ghost use Rattle.job.specs.Fits.{JobFits};
@@ -27,7 +29,7 @@ pub const COUNT_FULL: u8 = 17;
 
 pub const SNAPSHOT_COMPLETE: u8 = 20;
 
-#[derive(Drop)]
+#[derive(Clone, Copy)]
 pub struct Stepped {
     pub run: Run,
     pub answer: u8,

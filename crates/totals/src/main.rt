@@ -1,4 +1,6 @@
 // Reads a station's text from standard input and prints a table of totals (document 01).
+#![tactic(auto)]
+
 use libc::{STDIN_FILENO, STDOUT_FILENO};
 
 // One byte more than a text may have is read, so that a longer one is seen, and no more.

@@ -1,4 +1,6 @@
 // Document 01's worked station, step by step, and runs from elsewhere. What it prints stands in the file `stdout`, beside the paper's numbers.
+#![tactic(auto)]
+
 ghost use Rattle.std.specs.Prelude.{◌<◌};
 
 use channel::{Cargo, Channel, Item};
