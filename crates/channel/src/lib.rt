@@ -69,6 +69,7 @@ impl Channel {
     }
 
     // The channel with an item more at its end; 16 and 14 hand it back as it came.
+    #[tactic(auto, unfolding(crate::specs::Channels::with_item))]
     pub fn added(mut self, item: Item) -> Added
         ensures { result ≡ with_item self item }
     {
@@ -94,6 +95,7 @@ impl Channel {
     }
 
     // The channel without its head, and the head beside it; 16 and 13 hand it back as it came, with a barrier.
+    #[tactic(auto, using(crate::proofs::Lists::moved), unfolding(crate::specs::Channels::without_head))]
     pub fn taken(self) -> Taken
         ensures { result ≡ without_head self }
     {

@@ -10,6 +10,7 @@ ghost use Rattle.job.specs.Rules.{capped, capped_inflow, worst_anew, worst_count
 use crate::Job;
 use crate::sends::names;
 
+#[tactic(auto, using(crate::proofs::Tests::some_more), unfolding(crate::specs::Tests::some, crate::specs::Rules::has_input))]
 fn has_input(to: &[u8; 32], channels: usize, t: usize) -> bool
     requires { channels ≤ 32 }
     ensures { result ≡ has_input (linked [] to.now channels) t }
@@ -32,6 +33,7 @@ fn is_bad_input(source: bool, input: bool) -> bool
     !input
 }
 
+#[tactic(auto, using(crate::proofs::Tests::some_more, crate::proofs::Linked::input_linked), unfolding(crate::specs::Tests::some, crate::specs::Rules::fault7))]
 pub fn has_fault_7(job: Job) -> bool
     requires { JobSized job }
     ensures { result ≡ fault7 job }
@@ -49,6 +51,7 @@ pub fn has_fault_7(job: Job) -> bool
 }
 
 // Whether the task was struck, or every channel that leads into it comes from a struck task.
+#[tactic(auto, using(crate::proofs::Tests::every_more), unfolding(crate::specs::Tests::every, crate::specs::Rules::strike))]
 fn is_struck<'a>(
     from: &'a [u8; 32],
     to: &'a [u8; 32],
@@ -69,6 +72,7 @@ fn is_struck<'a>(
     struck[t] | all
 }
 
+#[tactic(auto, using(crate::proofs::Tests::sweep_more), unfolding(crate::specs::Tests::sweep, crate::specs::Rules::strike))]
 fn strike_once<'a>(
     from: &'a [u8; 32],
     to: &'a [u8; 32],
@@ -89,6 +93,7 @@ fn strike_once<'a>(
 }
 
 // After as many rounds as there are tasks no more can be struck.
+#[tactic(auto, using(crate::proofs::Tests::sweeps_more, crate::proofs::Linked::links_sized, crate::proofs::Linked::struck_linked), unfolding(crate::specs::Tests::sweeps, crate::specs::Rules::struck_tasks))]
 fn struck_tasks(job: Job) -> [bool; 16]
     requires { JobSized job }
     ensures { result ≡ struck_tasks job }
@@ -106,6 +111,7 @@ fn struck_tasks(job: Job) -> [bool; 16]
 }
 
 // Some task is left: a walk returns to its start.
+#[tactic(auto, using(crate::proofs::Tests::every_more), unfolding(crate::specs::Tests::every, crate::specs::Rules::fault8))]
 pub fn has_fault_8(job: Job) -> bool
     requires { JobSized job }
     ensures { result ≡ fault8 job }
@@ -121,6 +127,7 @@ pub fn has_fault_8(job: Job) -> bool
     !all
 }
 
+#[tactic(auto, unfolding(crate::specs::Rules::capped))]
 fn capped_at(x: u64) -> u32
     ensures { result ≡ capped x }
 {
@@ -140,6 +147,7 @@ fn brought(leads: bool, count: u32) -> u32
     0
 }
 
+#[tactic(auto, using(crate::proofs::Worst::capped_le), unfolding(crate::specs::Rules::capped_inflow))]
 fn inflow_of<'a>(
     from: &'a [u8; 32],
     to: &'a [u8; 32],
@@ -160,6 +168,7 @@ fn inflow_of<'a>(
     sum
 }
 
+#[tactic(auto, using(crate::proofs::Ints::within_non_neg))]
 fn worst_of(kind: u8, b: i32, inflow: u32) -> u32
     requires { kind ≡ 0 → within (pos 0) b (pos 4096) ≡ true }
     ensures { result ≡ cond (eqb kind 0) (nat_abs b) inflow }
@@ -170,6 +179,7 @@ fn worst_of(kind: u8, b: i32, inflow: u32) -> u32
     inflow
 }
 
+#[tactic(auto, using(crate::proofs::Tests::sweep_more, crate::proofs::Linked::links_sized, crate::proofs::Linked::inflow_linked), unfolding(crate::specs::Tests::sweep, crate::specs::Rules::worst_anew))]
 fn worst_once<'a>(
     kinds: &'a [u8; 16],
     b: &'a [i32; 16],
@@ -193,6 +203,7 @@ fn worst_once<'a>(
     next
 }
 
+#[tactic(auto, using(crate::proofs::Tests::sweeps_more, crate::proofs::Linked::parts_sized, crate::proofs::Linked::worst_swept), unfolding(crate::specs::Tests::sweeps, crate::specs::Rules::worst_counts))]
 fn worst_counts(job: Job) -> [u32; 16]
     requires { JobSized job }
     ensures { result ≡ worst_counts job }
@@ -209,6 +220,7 @@ fn worst_counts(job: Job) -> [u32; 16]
     worst
 }
 
+#[tactic(auto, using(crate::proofs::Tests::some_more), unfolding(crate::specs::Tests::some, crate::specs::Rules::fault9))]
 pub fn has_fault_9(job: Job) -> bool
     requires { JobSized job }
     ensures { result ≡ fault9 job }

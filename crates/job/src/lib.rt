@@ -31,6 +31,7 @@ pub struct Checked {
     pub answer: u8,
 }
 
+#[tactic(auto, using(crate::proofs::Fine::fine1, crate::proofs::Fine::fine2, crate::proofs::Fine::fine4), unfolding(crate::specs::Rules::first_fault))]
 fn column_answer(
     kinds: &[i32],
     a: &[i32],
@@ -63,6 +64,7 @@ fn column_answer(
     0
 }
 
+#[tactic(auto, unfolding(crate::specs::Rules::first_fault))]
 fn graph_answer(job: Job) -> u8
     requires { JobSized job }
     ensures { result ≡ first_fault (graph_faults job) 7 }
@@ -80,6 +82,7 @@ fn graph_answer(job: Job) -> u8
 }
 
 // The job by value; every number fits its place once lines 1 to 6 were found in order.
+#[tactic(auto, unfolding(crate::specs::Jobs::job_of))]
 fn job_of(kinds: &[i32], a: &[i32], b: &[i32], from: &[i32], to: &[i32]) -> Job
     requires { Small (tasks_and_channels kinds.now a.now b.now «from».now «to».now) }
     ensures { result ≡ job_of (tasks_and_channels kinds.now a.now b.now «from».now «to».now) }
@@ -113,6 +116,7 @@ fn refused(answer: u8) -> Checked
 }
 
 // The answer, and the job by value where it is 0.
+#[tactic(auto, using(crate::proofs::Fine::fine, crate::proofs::Fine::small, crate::proofs::Fine::sized, crate::proofs::Checks::column_refused, crate::proofs::Checks::graph_refused, crate::proofs::Checks::accepted, crate::proofs::Checks::same_job, crate::proofs::Checks::same_small), unfolding(crate::specs::Rules::checked_of))]
 pub fn check(
     kinds: &[i32],
     a: &[i32],

@@ -18,6 +18,7 @@ pub fn names(end: u8, t: usize) -> bool
 }
 
 // How many of the channels below `n` are outputs of the task: the place of channel `n` among them.
+#[tactic(auto, using(crate::proofs::Ints::byte_le), unfolding(crate::specs::Jobs::place_of))]
 pub fn place_of(job: Job, t: usize, n: usize) -> u32
     requires { n ≤ 32 }
     ensures { result ≡ place_of job t n }
@@ -39,6 +40,7 @@ pub fn sent_by(job: Job, t: usize, place: u32, outputs: u32, got: Record) -> Sen
 }
 
 // What goes over channel `c` for a record that its from-task takes in.
+#[tactic(auto, unfolding(crate::specs::Graph::sent_over))]
 pub fn sent_over(job: Job, c: usize, got: Record) -> Sending
     requires { (c < job.channels) × Sends job × (1 ≤ got.cylinder) }
     ensures { result ≡ sent_over job c got }
@@ -49,6 +51,7 @@ pub fn sent_over(job: Job, c: usize, got: Record) -> Sending
     sent_by(job, t, place, outputs, got)
 }
 
+#[tactic(auto, using(crate::proofs::Ints::within_non_neg, crate::proofs::Ints::within_nat_abs, crate::proofs::Ints::within_one))]
 fn small(x: i32) -> u8
     requires { within (pos 1) x (pos 20) ≡ true }
     ensures { result ≡ nat_abs x }

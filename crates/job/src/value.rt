@@ -4,6 +4,7 @@ ghost use Rattle.kinds.specs.Kinds.{within};
 ghost use Rattle.job.specs.Tests.{filled};
 ghost use Rattle.job.specs.Columns.{number_of, Bytes};
 
+#[tactic(auto, using(crate::proofs::Ints::within_non_neg, crate::proofs::Ints::within_nat_abs))]
 fn byte_of(x: i32) -> u8
     requires { within (pos 0) x (pos 255) ≡ true }
     ensures { result ≡ nat_abs x }
@@ -11,6 +12,7 @@ fn byte_of(x: i32) -> u8
     x as u8
 }
 
+#[tactic(auto, using(crate::proofs::Tests::filled_more), unfolding(crate::specs::Tests::filled))]
 pub fn bytes_16(column: &[i32]) -> [u8; 16]
     requires { (length column.now ≤ 16) × Bytes column.now }
     ensures { result ≡ filled 16 0 (λ t. nat_abs (number_of column.now t)) (length column.now) }
@@ -24,6 +26,7 @@ pub fn bytes_16(column: &[i32]) -> [u8; 16]
     held
 }
 
+#[tactic(auto, using(crate::proofs::Tests::filled_more), unfolding(crate::specs::Tests::filled))]
 pub fn bytes_32(column: &[i32]) -> [u8; 32]
     requires { (length column.now ≤ 32) × Bytes column.now }
     ensures { result ≡ filled 32 0 (λ t. nat_abs (number_of column.now t)) (length column.now) }
@@ -37,6 +40,7 @@ pub fn bytes_32(column: &[i32]) -> [u8; 32]
     held
 }
 
+#[tactic(auto, using(crate::proofs::Tests::filled_more), unfolding(crate::specs::Tests::filled))]
 pub fn numbers_16(column: &[i32]) -> [i32; 16]
     requires { length column.now ≤ 16 }
     ensures { result ≡ filled 16 (pos 0) (number_of column.now) (length column.now) }

@@ -63,6 +63,7 @@ fn one_if(keep: bool, got: Record) -> Sending
 }
 
 // What the task sends for `got` on its output at `place` of `outputs`.
+#[tactic(auto, unfolding(crate::specs::Kinds::sent_on))]
 pub fn sent(kind: u8, a: i32, b: i32, place: u32, outputs: u32, got: Record) -> Sending
     requires { Sendable kind a got }
     ensures { result ≡ sent_on kind a b place outputs got }

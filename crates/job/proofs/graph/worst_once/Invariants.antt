@@ -1,0 +1,13 @@
+use Prim.Native.Nat.{◌≤◌, ◌-◌}
+use mathlib.Core.Path.{◌≡◌}
+use Rattle.job.specs.Tests.{sweep}
+use Rattle.job.specs.Jobs.{job_by}
+use Rattle.job.specs.Rules.{worst_anew}
+use Rattle.job.proofs.graph.worst_once.Given as goal
+
+abbrev pub invariant-loop-t : goal.invariant-loop-t
+invariant-loop-t l =
+    (l.t ≤ l.tasks) × (l.next ≡ sweep (worst_anew (job_by l.kinds l.b l.tasks l.from l.to l.channels)) l.initial.next l.t)
+
+abbrev pub decreases-loop-t : goal.decreases-loop-t
+decreases-loop-t l = l.tasks - l.t
