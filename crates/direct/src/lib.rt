@@ -20,6 +20,7 @@ pub struct Directed {
     pub answer: u8,
 }
 
+#[tactic(auto, using(job::proofs::Ints::within_non_neg))]
 fn is_bad_count(job: Job, t: usize, count: u32) -> bool
     requires { (t < job.tasks) × JobSized job }
     ensures { result ≡ bad_count job t count }
@@ -30,6 +31,7 @@ fn is_bad_count(job: Job, t: usize, count: u32) -> bool
     count != 0
 }
 
+#[tactic(auto, using(job::proofs::Tests::some_more), unfolding(crate::specs::Direct::fault35, job::specs::Tests::some))]
 fn has_fault_35(job: Job, counts: &[u32]) -> bool
     requires { JobSized job }
     ensures { result ≡ fault35 job counts.now }
@@ -58,6 +60,7 @@ fn refused(answer: u8) -> Directed
 }
 
 // Each source reads as many records as its count says; the totals are of what every task then receives in all.
+#[tactic(auto, using(crate::proofs::Answers::handed, crate::proofs::Answers::handed_sized, crate::proofs::Answers::check_refused, crate::proofs::Answers::counts_refused, crate::proofs::Answers::readable, crate::proofs::Answers::evaluated))]
 pub fn direct(
     kinds: &[i32],
     a: &[i32],

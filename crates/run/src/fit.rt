@@ -11,6 +11,7 @@ use job::Job;
 use kinds::is_within;
 use tally::Totals;
 
+#[tactic(auto, using(crate::proofs::Ints::value_is))]
 fn cargo_fits(cargo: Cargo) -> bool
     ensures { result ≡ cargo_fits cargo }
 {
@@ -21,6 +22,7 @@ fn cargo_fits(cargo: Cargo) -> bool
 }
 
 // A channel that claims more than 8 items is not looked into.
+#[tactic(auto, using(job::proofs::Tests::every_more), unfolding(crate::specs::Fit::channel_fits, job::specs::Tests::every))]
 fn channel_fits(ch: Channel) -> bool
     ensures { result ≡ channel_fits ch }
 {
@@ -40,6 +42,7 @@ fn channel_fits(ch: Channel) -> bool
 }
 
 // Channel `c` fits, and where the job lacks it nothing is held for it.
+#[tactic(auto, unfolding(crate::specs::Fit::place_fits))]
 fn place_fits(ch: Channel, marked: bool, c: usize, channels: usize) -> bool
     ensures { result ≡ place_fits ch marked c channels }
 {
@@ -47,6 +50,7 @@ fn place_fits(ch: Channel, marked: bool, c: usize, channels: usize) -> bool
     fits & ((c < channels) | ((ch.count == 0) & !marked))
 }
 
+#[tactic(auto, using(job::proofs::Tests::every_more), unfolding(job::specs::Tests::every, crate::specs::Fit::channels_fit))]
 fn channels_fit(run: Run, channels: usize) -> bool
     ensures { result ≡ channels_fit run channels }
 {
@@ -61,6 +65,7 @@ fn channels_fit(run: Run, channels: usize) -> bool
 }
 
 // The sum of so many 32-bit values.
+#[tactic(auto, using(crate::proofs::Ints::times_is, crate::proofs::Ints::pos_fits, crate::proofs::Ints::neg_fits, crate::proofs::Ints::minus_is))]
 fn sum_fits(sum: i64, count: u32) -> bool
     requires { count ≤ 1048576 }
     ensures { result ≡ sum_fits sum count }
@@ -69,6 +74,7 @@ fn sum_fits(sum: i64, count: u32) -> bool
     (0 - n * 2147483648 <= sum) & (sum <= n * 2147483647)
 }
 
+#[tactic(auto, unfolding(crate::specs::Fit::totals_fit))]
 fn totals_fit(x: Totals, limit: u32) -> bool
     requires { limit ≤ 1048576 }
     ensures { result ≡ totals_fit x limit }
@@ -81,6 +87,7 @@ fn totals_fit(x: Totals, limit: u32) -> bool
 }
 
 // The most that a task may have counted; nothing where the job lacks the task.
+#[tactic(auto, using(job::proofs::Ints::within_non_neg))]
 fn limit_of(there: bool, kind: u8, b: i32) -> u32
     requires { there ≡ true → kind ≡ 0 → within (pos 0) b (pos 4096) ≡ true }
     ensures { result ≡ limit_by there kind b }
@@ -100,6 +107,7 @@ fn counts_fit(task: bool, source: bool, stored: u8, waiting: u8) -> bool
     (stored <= 1) & (waiting <= 1) & (task | (stored == 0)) & ((waiting == 0) | (task & source))
 }
 
+#[tactic(auto, using(job::proofs::Tests::every_more, crate::proofs::Clauses::limit_low), unfolding(job::specs::Tests::every, crate::specs::Fit::limit_of, crate::specs::Fit::task_fits, crate::specs::Fit::tasks_fit))]
 fn tasks_fit(job: Job, run: Run) -> bool
     requires { JobSized job }
     ensures { result ≡ tasks_fit job run }
@@ -123,6 +131,7 @@ fn tasks_fit(job: Job, run: Run) -> bool
     all
 }
 
+#[tactic(auto, unfolding(crate::specs::Fit::run_fits))]
 pub fn run_fits(job: Job, run: Run) -> bool
     requires { JobSized job }
     ensures { result ≡ run_fits job run }
