@@ -21,6 +21,7 @@ fn is_full(ch: Channel) -> bool
 }
 
 // Whether some output of the task holds 8 items.
+#[tactic(auto, using(job::proofs::Tests::some_more), unfolding(job::specs::Tests::some, crate::specs::Outputs::some_full))]
 pub fn some_full(job: Job, held: [Channel; 32], t: usize) -> bool
     requires { JobSized job }
     ensures { result ≡ some_full job held t }
@@ -37,6 +38,7 @@ pub fn some_full(job: Job, held: [Channel; 32], t: usize) -> bool
 }
 
 // The marks without those of the task's inputs.
+#[tactic(auto, using(crate::proofs::Places::place_more), unfolding(crate::specs::Outputs::each_place, crate::specs::Outputs::unmarked))]
 pub fn unmark(job: Job, marked: [bool; 32], t: usize) -> [bool; 32]
     requires { JobSized job }
     ensures { result ≡ unmarked job marked t }
@@ -52,6 +54,7 @@ pub fn unmark(job: Job, marked: [bool; 32], t: usize) -> [bool; 32]
 }
 
 // Whether every task has stored its totals.
+#[tactic(auto, using(job::proofs::Tests::every_more), unfolding(job::specs::Tests::every, crate::specs::Outputs::all_stored))]
 pub fn all_stored(job: Job, stored: [u8; 16]) -> bool
     requires { JobSized job }
     ensures { result ≡ all_stored job stored }
@@ -77,6 +80,7 @@ fn at_most_of(n: u8, x: u8) -> u8
 }
 
 // At a source one barrier more waits, and of those that waited no more than the `n` under way.
+#[tactic(auto, using(crate::proofs::Places::at_most))]
 fn one_more_waits(n: u8, source: bool, waits: u8) -> u8
     requires { n < 255 }
     ensures { result ≡ one_more_waits n source waits }
@@ -89,6 +93,7 @@ fn one_more_waits(n: u8, source: bool, waits: u8) -> u8
 }
 
 // Every source gets a waiting barrier, besides those of the `under_way` snapshots.
+#[tactic(auto, using(crate::proofs::Places::place_more), unfolding(crate::specs::Outputs::each_place, crate::specs::Outputs::sources_wait))]
 pub fn sources_wait(job: Job, under_way: u8, waiting: [u8; 16]) -> [u8; 16]
     requires { JobSized job × (under_way < 255) }
     ensures { result ≡ sources_wait job under_way waiting }
@@ -104,6 +109,7 @@ pub fn sources_wait(job: Job, under_way: u8, waiting: [u8; 16]) -> [u8; 16]
 }
 
 // A barrier, or what the task sends for a record, on every output of the task.
+#[tactic(auto, using(crate::proofs::Sending::put_to, crate::proofs::Sending::put_same, crate::proofs::Sending::put_here, crate::proofs::Sending::not_here, crate::proofs::Sending::place_here, crate::proofs::Sending::place_not), unfolding(crate::specs::Outputs::each_place, job::specs::Jobs::place_of, crate::specs::Outputs::put_all))]
 pub fn put_all(job: Job, t: usize, cargo: Cargo, held: [Channel; 32]) -> [Channel; 32]
     requires { (t < 16) × Sends job × (cargo_fits cargo ≡ true) }
     ensures { result ≡ put_all job t cargo held }

@@ -11,6 +11,7 @@ use kinds::Sending;
 use tally::Record;
 
 // Whether every channel that leads into the task is marked.
+#[tactic(auto, using(job::proofs::Tests::every_more), unfolding(job::specs::Tests::every, crate::specs::Parts::all_marked_by))]
 pub fn all_marked(to: &[u8; 32], marked: &[bool; 32], channels: usize, t: usize) -> bool
     requires { channels ≤ 32 }
     ensures { result ≡ all_marked_by to.now marked.now channels t }
@@ -25,6 +26,7 @@ pub fn all_marked(to: &[u8; 32], marked: &[bool; 32], channels: usize, t: usize)
 }
 
 // What a task of the kind puts on its output at `place` of `outputs` for a record that it received.
+#[tactic(auto, unfolding(crate::specs::Parts::carried_by))]
 pub fn carry(
     kind: u8,
     a: i32,
@@ -50,6 +52,7 @@ pub fn carry(
 }
 
 // The same for a barrier, which goes on every output, or a record.
+#[tactic(auto, using(crate::proofs::Cargos::cylinder_from_1))]
 pub fn put_cargo(
     kind: u8,
     a: i32,
