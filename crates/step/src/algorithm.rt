@@ -13,6 +13,7 @@ use run::Run;
 use tally::{Record, Totals};
 
 // The snapshot under way becomes the last complete one where every task has stored.
+#[tactic(auto, unfolding(crate::specs::Algorithm::completed))]
 pub fn complete(job: Job, mut run: Run) -> Stepped
     requires { JobSized job }
     ensures { result ≡ completed job run }
@@ -31,6 +32,7 @@ pub fn complete(job: Job, mut run: Run) -> Stepped
 }
 
 // Which of those under way a task stores next that has stored so many.
+#[tactic(auto, unfolding(crate::specs::Algorithm::turn_of))]
 fn turn(stored: u8, under: u8) -> u8
     ensures { (result ≡ turn_of stored under) × (result < 255) }
 {
@@ -44,6 +46,7 @@ fn turn(stored: u8, under: u8) -> u8
 }
 
 // The task stores its totals and puts a barrier on every output.
+#[tactic(auto, unfolding(crate::specs::Algorithm::stored_by))]
 pub fn store(job: Job, mut run: Run, t: usize) -> Run
     requires { (t < 16) × Sends job }
     ensures { result ≡ stored_by job run t }
@@ -59,6 +62,7 @@ pub fn store(job: Job, mut run: Run, t: usize) -> Run
 }
 
 // The barrier at the head of channel `c` marks it; the last of the task's inputs to be marked has the task store and pass it on.
+#[tactic(auto, using(outputs::proofs::Sending::marked_by), unfolding(crate::specs::Algorithm::barrier_received))]
 pub fn receive_barrier(job: Job, mut run: Run, t: usize, c: usize, rest: Channel) -> Stepped
     requires { (t < 16) × (c < 32) × Sends job }
     ensures { result ≡ barrier_received job run t c rest }
@@ -82,6 +86,7 @@ pub fn receive_barrier(job: Job, mut run: Run, t: usize, c: usize, rest: Channel
 }
 
 // The record updates the task's totals, then is sent by the kind's rule.
+#[tactic(auto, unfolding(crate::specs::Algorithm::taken_in))]
 pub fn take_in(job: Job, mut run: Run, t: usize, got: Record) -> Run
     requires { (t < 16) × Sends job × (cargo_fits (Cargo.Record got) ≡ true) × Room (totals_at run.live t) }
     ensures { result ≡ taken_in job run t got }
@@ -96,6 +101,7 @@ pub fn take_in(job: Job, mut run: Run, t: usize, got: Record) -> Run
 }
 
 // The record at the head of channel `c` is received by the task `t`.
+#[tactic(auto, using(crate::proofs::Rooms::has_room), unfolding(crate::specs::Algorithm::record_received))]
 pub fn receive_record(
     job: Job,
     mut run: Run,

@@ -36,6 +36,7 @@ pub struct Stepped {
 }
 
 // The step by its number.
+#[tactic(auto, unfolding(crate::specs::Step::stepped))]
 pub fn step(job: Job, cylinders: &[i32], values: &[i32], run: Run, n: u16) -> Stepped
     requires { JobFits job (length cylinders.now) × Fits job run × RecordsFit cylinders.now values.now }
     ensures { result ≡ stepped job cylinders.now values.now run n }

@@ -15,6 +15,7 @@ use run::Run;
 use tally::{Record, Totals};
 
 // The step that delivers the head of channel `c`.
+#[tactic(auto, using(crate::proofs::Sources::opened, crate::proofs::Sources::given, crate::proofs::Sources::not_given, crate::proofs::Sources::head_fits), unfolding(crate::specs::Step::delivered))]
 pub fn deliver(job: Job, run: Run, c: usize) -> Stepped
     requires { (c < 32) × Sends job × Fits job run }
     ensures { result ≡ delivered job run c }
@@ -47,6 +48,7 @@ pub fn deliver(job: Job, run: Run, c: usize) -> Stepped
     }
 }
 
+#[tactic(auto, unfolding(crate::specs::Step::is_no_source))]
 fn is_no_source(job: Job, t: usize) -> bool
     requires { t < 16 }
     ensures { result ≡ is_no_source job t }
@@ -54,6 +56,7 @@ fn is_no_source(job: Job, t: usize) -> bool
     (job.tasks <= t) | (job.kinds[t] != 0)
 }
 
+#[tactic(auto, using(crate::proofs::Sources::not_negative))]
 fn natural(x: i32) -> u32
     requires { le_z (pos 0) x ≡ true }
     ensures { result ≡ nat_abs x }
@@ -62,6 +65,7 @@ fn natural(x: i32) -> u32
 }
 
 // Source `t` reads its next record.
+#[tactic(auto, using(crate::proofs::Sources::source_is, crate::proofs::Lent::record_fits, crate::proofs::Lent::inside_part, crate::proofs::Lent::part_short, crate::proofs::Rooms::has_room), unfolding(crate::specs::Step::source_read, crate::specs::Step::next_record))]
 pub fn read(job: Job, cylinders: &[i32], values: &[i32], run: Run, t: usize) -> Stepped
     requires { (t < 16) × JobFits job (length cylinders.now) × Fits job run × RecordsFit cylinders.now values.now }
     ensures { result ≡ source_read job cylinders.now values.now run t }
@@ -88,6 +92,7 @@ pub fn read(job: Job, cylinders: &[i32], values: &[i32], run: Run, t: usize) -> 
 }
 
 // Source `t` sends its waiting barrier: it stores its totals, offset included, and a barrier goes on every output.
+#[tactic(auto, unfolding(crate::specs::Step::barrier_sent))]
 pub fn send_barrier(job: Job, mut run: Run, t: usize) -> Stepped
     requires { (t < 16) × Sends job }
     ensures { result ≡ barrier_sent job run t }
@@ -109,6 +114,7 @@ pub fn send_barrier(job: Job, mut run: Run, t: usize) -> Stepped
 }
 
 // A snapshot begins.
+#[tactic(auto, unfolding(crate::specs::Step::begun))]
 pub fn begin(job: Job, mut run: Run) -> Stepped
     requires { JobSized job }
     ensures { result ≡ begun job run }
@@ -137,6 +143,7 @@ fn last_or_none(run: Run) -> [Totals; 16]
 }
 
 // All is emptied but the last complete snapshot, whose totals become the live ones.
+#[tactic(auto, unfolding(crate::specs::Step::cut_off))]
 pub fn cut(run: Run) -> Run
     ensures { result ≡ cut_off run }
 {
