@@ -26,6 +26,7 @@ fn is_done(answer: u8) -> bool
 }
 
 // One step more of a list, done or refused, and counted.
+#[tactic(auto, using(job::proofs::Ints::byte_le), unfolding(step::specs::Step::stepped))]
 fn one_more(job: Job, cylinders: &[i32], values: &[i32], l: Listed, n: u16) -> Listed
     requires { JobFits job (length cylinders.now) × Fits job l.run × RecordsFit cylinders.now values.now × (l.done < 9223372036854775808) × (l.refused < 9223372036854775808) }
     ensures { result ≡ counted l (stepped job cylinders.now values.now l.run n) }
@@ -43,6 +44,7 @@ fn one_more(job: Job, cylinders: &[i32], values: &[i32], l: Listed, n: u16) -> L
 }
 
 // The steps of a list, in order.
+#[tactic(auto, using(crate::proofs::Listing::listed_more, crate::proofs::Listing::listed_fits, crate::proofs::Listing::done_few, crate::proofs::Listing::refused_few), unfolding(crate::specs::Lists::listed_to))]
 pub fn steps(job: Job, cylinders: &[i32], values: &[i32], run: Run, numbers: &[u16]) -> Listed
     requires { JobFits job (length cylinders.now) × Fits job run × RecordsFit cylinders.now values.now }
     ensures { result ≡ listed_to job cylinders.now values.now run numbers.now (length numbers.now) }
