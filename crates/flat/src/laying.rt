@@ -9,6 +9,7 @@ use channel::Channel;
 use tally::Totals;
 
 // The items of channel `c`.
+#[tactic(auto, using(channel::proofs::Lists::counted, crate::proofs::LaidOut::fill_more), unfolding(crate::specs::Lays::fill_to))]
 fn lay_items(codes: &mut [u16; 256], held: &mut [i32; 256], c: usize, ch: Channel)
     requires { c < 32 }
     ensures laid { (codes.new ≡ fill_to codes.old (c * 8) (λ k. code_of (cargo_at ch k)) 8) × (held.new
@@ -27,6 +28,7 @@ fn lay_items(codes: &mut [u16; 256], held: &mut [i32; 256], c: usize, ch: Channe
 }
 
 // All channels.
+#[tactic(auto, using(channel::proofs::Lists::counted, crate::proofs::Tables::length_table, crate::proofs::LaidOut::each_more, crate::proofs::LaidOut::each_list, crate::proofs::LaidOut::laid_channel), unfolding(outputs::specs::Outputs::each_place, crate::specs::Columns::channels_in))]
 pub fn lay(
     codes: &mut [u16; 256],
     held: &mut [i32; 256],
@@ -47,6 +49,7 @@ pub fn lay(
 }
 
 // How many records each task has received.
+#[tactic(auto, using(channel::proofs::Lists::counted, crate::proofs::Tables::one_more))]
 pub fn lay_received(received: &mut [u32; 16], live: [Totals; 16])
     ensures { length received.old ≡ 16 → Tells live received.new }
 {

@@ -16,6 +16,7 @@ use channel::{Cargo, Item};
 use tally::{Record, Totals};
 
 // Whether a barrier stands at the head of channel `c`.
+#[tactic(auto, using(crate::proofs::Rings::barrier_there), unfolding(crate::specs::Columns::barrier_in))]
 pub fn is_barrier(codes: &[u16; 256], heads: &[usize; 32], c: usize) -> bool
     requires { c < 32 }
     ensures { result ≡ barrier_in codes.now heads.now c }
@@ -24,6 +25,7 @@ pub fn is_barrier(codes: &[u16; 256], heads: &[usize; 32], c: usize) -> bool
 }
 
 // The cargo at the head of channel `c`.
+#[tactic(auto, unfolding(crate::specs::Columns::head_in))]
 pub fn head(codes: &[u16; 256], held: &[i32; 256], heads: &[usize; 32], c: usize) -> Cargo
     requires { c < 32 }
     ensures { result ≡ head_in codes.now held.now heads.now c }
@@ -46,6 +48,7 @@ fn cargo_of(code: u16, value: i32) -> Cargo
 }
 
 // The item at place `k` of channel `c`, counted from its head.
+#[tactic(auto, using(crate::proofs::LaidOut::boxed), unfolding(crate::specs::Columns::item_in))]
 fn item_at(codes: &[u16; 256], held: &[i32; 256], heads: &[usize; 32], c: usize, k: usize) -> Item
     requires { (c < 32) × (k < 8) }
     ensures { result ≡ item_in codes.now held.now c (get_or heads.now c 0) k }
@@ -57,9 +60,10 @@ fn item_at(codes: &[u16; 256], held: &[i32; 256], heads: &[usize; 32], c: usize,
 }
 
 // A cargo is stored at place `p` of the columns, and reads as itself.
+#[tactic(auto, using(crate::proofs::Rings::again, crate::proofs::LaidOut::boxed))]
 fn store(codes: &mut [u16; 256], held: &mut [i32; 256], p: usize, cargo: Cargo)
     requires { p < 256 }
-    ensures stored { (codes.new ≡ set codes.old p (code_of cargo)) × (held.new ≡ set held.entry.now p (value_of cargo)) }
+    ensures stored { (codes.new ≡ set codes.old p (code_of cargo)) × (held.new ≡ set held.old p (value_of cargo)) }
     ensures item { item_of (code_of cargo) (value_of cargo) ≡ record { cargo = cargo } }
 {
     match cargo {
@@ -77,10 +81,11 @@ fn store(codes: &mut [u16; 256], held: &mut [i32; 256], p: usize, cargo: Cargo)
 
 // The head of channel `c` is taken off: a barrier stands in its place, behind the last item. A channel that is empty or claims more than 8
 // items stays as it is.
+#[tactic(auto, using(crate::proofs::Rings::takes, crate::proofs::Rings::unmoved, crate::proofs::Rings::too_many, crate::proofs::Rings::empty))]
 pub fn take(codes: &mut [u16; 256], heads: &mut [usize; 32], counts: &mut [usize; 32], c: usize)
     requires { c < 32 }
     ensures { (held : List ℤ) → Laid codes.old held heads.old counts.old → ReadAs (set
-        (channels_in codes.old held heads.old counts.old) c (without_head (channel_in codes.entry.now held heads.old counts.old c)).channel) codes.new held heads.new counts.new }
+        (channels_in codes.old held heads.old counts.old) c (without_head (channel_in codes.old held heads.old counts.old c)).channel) codes.new held heads.new counts.new }
 {
     let n = counts[c];
     if 8 < n {
@@ -96,6 +101,7 @@ pub fn take(codes: &mut [u16; 256], heads: &mut [usize; 32], counts: &mut [usize
 }
 
 // A record is put at the end of channel `c`; a channel of 8 items or more stays as it is.
+#[tactic(auto, using(crate::proofs::Rings::puts, crate::proofs::Rings::unmoved, crate::proofs::Rings::full))]
 pub fn put(
     codes: &mut [u16; 256],
     held: &mut [i32; 256],

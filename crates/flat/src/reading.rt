@@ -5,6 +5,7 @@ ghost use Rattle.flat.specs.Columns.{channel_in, channels_in};
 use crate::item_at;
 use channel::Channel;
 
+#[tactic(auto, unfolding(crate::specs::Columns::channel_in, crate::specs::Columns::table))]
 fn channel_at(
     codes: &[u16; 256],
     held: &[i32; 256],
@@ -31,6 +32,7 @@ fn channel_at(
     }
 }
 
+#[tactic(auto, using(channel::proofs::Lists::counted, crate::proofs::LaidOut::each_more, crate::proofs::LaidOut::each_table), unfolding(outputs::specs::Outputs::each_place, crate::specs::Columns::channels_in))]
 pub fn back(
     codes: &[u16; 256],
     held: &[i32; 256],
