@@ -8,6 +8,7 @@ use job::Job;
 use run::Run;
 
 // A record to be read, or a barrier that waits.
+#[tactic(auto, using(step::proofs::Sources::not_negative))]
 fn task_left(kind: u8, b: i32, received: u32, waits: bool) -> bool
     requires { kind ≡ 0 → le_z (pos 0) b ≡ true }
     ensures { result ≡ left_by kind b received waits }
@@ -18,6 +19,7 @@ fn task_left(kind: u8, b: i32, received: u32, waits: bool) -> bool
     waits
 }
 
+#[tactic(auto, using(job::proofs::Bools::both_true, job::proofs::Tests::some_more), unfolding(job::specs::Tests::some, crate::specs::Drains::tasks_left))]
 fn tasks_left(job: Job, run: Run) -> bool
     requires { JobSized job }
     ensures { result ≡ tasks_left job run }
@@ -33,6 +35,7 @@ fn tasks_left(job: Job, run: Run) -> bool
     found
 }
 
+#[tactic(auto, using(job::proofs::Tests::some_more), unfolding(job::specs::Tests::some, crate::specs::Drains::channels_left))]
 fn channels_left(job: Job, run: Run) -> bool
     requires { JobSized job }
     ensures { result ≡ channels_left job run }
@@ -48,6 +51,7 @@ fn channels_left(job: Job, run: Run) -> bool
     found
 }
 
+#[tactic(auto, unfolding(crate::specs::Drains::some_left))]
 pub fn some_left(job: Job, run: Run) -> bool
     requires { JobSized job }
     ensures { result ≡ some_left job run }

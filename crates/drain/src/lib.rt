@@ -39,6 +39,7 @@ fn last_answer(left: bool, spent: bool) -> u8
 
 // The lowest-numbered possible step, again and again, until none is possible or the limit is spent: steps that bring records are done in
 // columns, which are lent and never copied; a barrier, which is rare, goes through the plain step.
+#[tactic(auto, using(step::proofs::Keeps::stepped_fits, crate::proofs::Draining::goes_on, crate::proofs::Draining::ends, crate::proofs::Draining::one_step, crate::proofs::Brings::possible_left), unfolding(crate::specs::Drains::drained_of))]
 pub fn drain(job: Job, cylinders: &[i32], values: &[i32], run: Run, limit: u32) -> Drained
     requires { JobFits job (length cylinders.now) × Fits job run × RecordsFit cylinders.now values.now }
     ensures { result ≡ drained_of job cylinders.now values.now limit 0 run }

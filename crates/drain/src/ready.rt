@@ -36,6 +36,7 @@ fn moves(
 }
 
 // Whether channel `c` can be delivered from.
+#[tactic(auto, unfolding(crate::specs::Ready::delivers_by))]
 fn delivers(
     to: &[u8; 32],
     marked: &[bool; 32],
@@ -62,6 +63,7 @@ fn delivers(
 }
 
 // Whether the source can read its next record (below 48) or send its waiting barrier.
+#[tactic(auto, using(step::proofs::Sources::not_negative), unfolding(crate::specs::Ready::acts_by))]
 fn acts(n: u16, there: bool, kind: u8, b: i32, received: u32, waits: bool, full: bool) -> bool
     requires { there ≡ true → kind ≡ 0 → le_z (pos 0) b ≡ true }
     ensures { result ≡ acts_by n there kind b received waits full }
@@ -93,6 +95,7 @@ pub fn task_of(to: &[u8; 32], n: u16) -> usize
 }
 
 // Whether step `n` is possible; `full` says which tasks have a full output.
+#[tactic(auto, unfolding(crate::specs::Ready::possible_in))]
 pub fn is_possible(
     codes: &[u16; 256],
     heads: &[usize; 32],
@@ -111,7 +114,7 @@ pub fn is_possible(
     requires channels_bound { channels ≤ 32 }
     requires pos_value { ltb (source_of n) tasks ≡ true → get_or kinds.now (source_of n) 0 ≡ 0 → le_z (pos 0) (get_or b.now (source_of n) (pos 0))
         ≡ true }
-    ensures { result ≡ possible_in codes.now heads.now counts.now received.now full.entry.now to.now kinds.now b.now marked.now waiting.now channels tasks n }
+    ensures { result ≡ possible_in codes.now heads.now counts.now received.now full.now to.now kinds.now b.now marked.now waiting.now channels tasks n }
 {
     let t = task_of(to, n);
     if n < 32 {
@@ -149,6 +152,7 @@ fn note_at(full: &mut [bool; 16], from: &[u8; 32], counts: &[usize; 32], c: usiz
 }
 
 // The tasks with a full output: those in `full` already, and those that have one among the channels.
+#[tactic(auto, using(crate::proofs::Asking::noted_more), unfolding(crate::specs::Ready::noted_to))]
 pub fn note(full: &mut [bool; 16], from: &[u8; 32], counts: &[usize; 32], channels: usize)
     requires { (channels ≤ 32) × ((c : ℕ) → c < channels → get_or from.now c 0 < 16) }
     ensures { full.new ≡ noted_to full.old from.now counts.now channels }

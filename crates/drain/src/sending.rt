@@ -15,6 +15,7 @@ use kinds::Sending;
 use tally::Record;
 
 // How many of the channels are outputs of the task.
+#[tactic(auto, using(job::proofs::Ints::byte_le), unfolding(crate::specs::Sending::outputs_by))]
 pub fn outputs_of(from: &[u8; 32], channels: usize, t: usize) -> u32
     requires { channels ≤ 32 }
     ensures { result ≡ outputs_by from.now t channels }
@@ -29,6 +30,7 @@ pub fn outputs_of(from: &[u8; 32], channels: usize, t: usize) -> u32
 }
 
 // The number of outputs of every task.
+#[tactic(auto, using(flat::proofs::Tables::one_more))]
 pub fn all_outputs(outs: &mut [u32; 16], from: &[u8; 32], channels: usize)
     requires { channels ≤ 32 }
     ensures { length outs.old ≡ 16 → (t : ℕ) → t < 16 → get_or outs.new t 0 ≡ outputs_by from.now
@@ -42,6 +44,7 @@ pub fn all_outputs(outs: &mut [u32; 16], from: &[u8; 32], channels: usize)
     }
 }
 
+#[tactic(auto, using(step::proofs::Sources::not_negative))]
 fn natural(x: i32) -> usize
     requires { le_z (pos 0) x ≡ true }
     ensures { result ≡ nat_abs x }
@@ -50,6 +53,7 @@ fn natural(x: i32) -> usize
 }
 
 // What step `n` brings to task `t`: the head of its channel, the source's next record, or a barrier.
+#[tactic(auto, unfolding(crate::specs::Sending::brought_by))]
 pub fn bring(
     cylinders: &[i32],
     values: &[i32],
@@ -81,6 +85,7 @@ pub fn bring(
 }
 
 // What task `t` puts on its output `c` at `place` of `outputs` for a record that it received.
+#[tactic(auto, using(flat::proofs::Rings::unmoved), unfolding(outputs::specs::Parts::carried_by))]
 fn carry(
     codes: &mut [u16; 256],
     held: &mut [i32; 256],
@@ -97,7 +102,7 @@ fn carry(
 )
     requires { (c < 32) × (t < 16) × Sendable (get_or kinds.now t 0) (get_or a.now t (pos 0)) got }
     ensures { Laid codes.old held.old heads.now counts.old → ReadAs (set
-        (channels_in codes.old held.old heads.now counts.old) c (carried_by (get_or kinds.entry.now t 0) (get_or a.now t (pos 0)) (get_or b.now t (pos 0)) place outputs got (channel_in codes.entry.now held.old heads.now counts.old c))) codes.new held.new heads.entry.now counts.new }
+        (channels_in codes.old held.old heads.now counts.old) c (carried_by (get_or kinds.now t 0) (get_or a.now t (pos 0)) (get_or b.now t (pos 0)) place outputs got (channel_in codes.old held.old heads.now counts.old c))) codes.new held.new heads.now counts.new }
 {
     let s = kinds::sent(kinds[t], a[t], b[t], place, outputs, got);
     match s {
@@ -109,6 +114,7 @@ fn carry(
 }
 
 // The same on channel `j` if it is an output of the task; the place of the next output.
+#[tactic(auto, using(crate::proofs::Sends::channel_at_lem, crate::proofs::Sends::sent_here, crate::proofs::Sends::sent_not))]
 fn send_at(
     codes: &mut [u16; 256],
     held: &mut [i32; 256],
@@ -128,7 +134,7 @@ fn send_at(
     ensures next { result ≡ place + bool_byte (eqb (get_or from.now j 0) t) }
     ensures sends { Laid codes.old held.old heads.now counts.old → ReadAs (sent_at
         (get_or kinds.now t 0) (get_or a.now t (pos 0)) (get_or b.now t (pos 0)) from.now t place
-        outputs got (channels_in codes.old held.old heads.now counts.old) j) codes.exit.now held.new heads.now counts.new }
+        outputs got (channels_in codes.old held.old heads.now counts.old) j) codes.new held.new heads.now counts.new }
 {
     if names(from[j], t) {
         carry(
@@ -140,6 +146,7 @@ fn send_at(
 }
 
 // What the task sends for a record that it received, on all its outputs.
+#[tactic(auto, using(crate::proofs::Sends::byte_most, crate::proofs::Sends::sent_more, crate::proofs::Sends::outputs_more), unfolding(crate::specs::Sending::outputs_by, crate::specs::Sending::sent_to))]
 fn send(
     codes: &mut [u16; 256],
     held: &mut [i32; 256],
@@ -171,6 +178,7 @@ fn send(
 }
 
 // A delivery takes the head of its channel, a read leaves the channels as they are.
+#[tactic(auto, using(crate::proofs::Asking::channel_small, crate::proofs::Asking::left_low, crate::proofs::Asking::left_high, flat::proofs::Rings::unmoved))]
 fn take_for(codes: &mut [u16; 256], heads: &mut [usize; 32], counts: &mut [usize; 32], n: u16)
     ensures { (held : List ℤ) → Laid codes.old held heads.old counts.old → ReadAs (set
         (channels_in codes.old held heads.old counts.old) (channel_by n) (left_on n (channel_in codes.old held heads.old counts.old (channel_by n)))) codes.new held heads.new

@@ -24,6 +24,7 @@ pub struct Turned {
 
 // The lowest-numbered possible step, again and again, as long as they bring records and the limit is not spent. The columns and the live
 // totals come as those of some run and read, at the end, as its own after these steps; `n` is the step that is next.
+#[tactic(auto, using(crate::proofs::Steps::find_is, crate::proofs::Onward::goes_first, crate::proofs::Onward::Turn, crate::proofs::Onward::going, crate::proofs::Onward::inside, crate::proofs::Onward::room_is, crate::proofs::Onward::sendable, crate::proofs::Onward::goes_more))]
 fn turns<'b, 'c>(
     cylinders: &[i32],
     values: &[i32],
@@ -49,7 +50,7 @@ fn turns<'b, 'c>(
         cylinders.now values.now × (start ≤ limit) }
     requires standing { Standing (job_by kinds.now a.now b.now tasks from.now to.now channels) marked.now waiting.now codes.old
         held.old heads.old counts.old received.old totals }
-    ensures { (run : Run) → Stands (job_by kinds.now a.now b.now tasks from.now to.now channels) marked.now waiting.now codes.old held.old heads.entry.now counts.old received.old totals run → Went (job_by kinds.now a.now b.entry.now tasks from.now to.now channels) cylinders.now values.now run limit start
+    ensures { (run : Run) → Stands (job_by kinds.now a.now b.now tasks from.now to.now channels) marked.now waiting.now codes.old held.old heads.old counts.old received.old totals run → Went (job_by kinds.now a.now b.now tasks from.now to.now channels) cylinders.now values.now run limit start
         result.steps result.n codes.new held.new heads.new counts.new received.new result.live }
 {
     let mut outs = [0u32; 16];
@@ -90,6 +91,7 @@ pub struct Stopped {
 }
 
 // Steps that bring records, done in columns: the run after them, their number, and the step that is next.
+#[tactic(auto, using(crate::proofs::Onward::came))]
 pub fn records(
     job: Job,
     cylinders: &[i32],
