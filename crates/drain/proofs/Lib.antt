@@ -8,6 +8,7 @@
 --   Sends      what a task sends, channel by channel
 --   Steps      where the columns read as a run, the search and the step in them are the run's own
 --   Onward     one turn of the drain in the columns
+--   Found      what the search found is the lowest possible step of any run that the columns came as
 pub mod Draining
 pub mod Possible
 pub mod Brings
@@ -17,3 +18,4 @@ pub mod Asking
 pub mod Sends
 pub mod Steps
 pub mod Onward
+pub mod Found
