@@ -18,6 +18,7 @@ use step::Stepped;
 pub const DOES_NOT_FIT: u8 = 16;
 
 // The check of a job: 1 to 9, or 0.
+#[tactic(auto, using(crate::proofs::Admission::check_answer), unfolding(job::specs::Rules::job_answer))]
 pub fn check(
     kinds: &[i32],
     a: &[i32],
@@ -41,6 +42,7 @@ pub fn fresh() -> Run
 }
 
 // 1 to 9, then 16, then 0, and the job by value.
+#[tactic(auto, using(job::proofs::Fits::accepted_fits, crate::proofs::Admission::check_answer, crate::proofs::Admission::check_job, crate::proofs::Admission::refused_job, crate::proofs::Admission::admitted_fits, crate::proofs::Admission::admitted_16), unfolding(crate::specs::Entries::admitted_of))]
 fn admit(
     kinds: &[i32],
     a: &[i32],
@@ -68,6 +70,7 @@ fn admit(
 }
 
 // One step.
+#[tactic(auto, using(crate::proofs::Admission::ready, crate::proofs::Admission::step_admitted, crate::proofs::Admission::step_refused))]
 pub fn step(
     run: Run,
     kinds: &[i32],
@@ -93,6 +96,7 @@ pub fn step(
 }
 
 // A list of steps.
+#[tactic(auto, using(crate::proofs::Admission::ready, crate::proofs::Admission::steps_admitted, crate::proofs::Admission::steps_refused), unfolding(crate::specs::Entries::steps_on))]
 pub fn steps(
     run: Run,
     kinds: &[i32],
@@ -120,6 +124,7 @@ pub fn steps(
 }
 
 // A drain with a limit.
+#[tactic(auto, using(crate::proofs::Admission::ready, crate::proofs::Admission::drain_admitted, crate::proofs::Admission::drain_refused), unfolding(crate::specs::Entries::drain_on))]
 pub fn drain(
     run: Run,
     kinds: &[i32],
