@@ -7,3 +7,4 @@ pub mod Columns
 pub mod Ints
 pub mod Exact
 pub mod Whole
+pub mod Tested
