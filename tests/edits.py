@@ -38,7 +38,7 @@ def crate_and_label(edit):
 
 def path_of(file, function):
     """The path below proofs/ of a function's proof: its module, its type and its name."""
-    modules = re.sub(r"^src/|(/mod|^src/lib|^src/main)?\.rt$", "", file)
+    modules = re.sub(r"^src/|(/mod)?\.rt$", "", file)
     return "/".join(["proofs", *([modules] if modules not in ("lib", "main") else []), *function.split("::")])
 
 
