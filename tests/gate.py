@@ -1,13 +1,14 @@
-"""The pool of the test command: jobs that wait for nothing of each other run side by side, two at a time (TEST_JOBS in the environment
-says otherwise), and `rt ci` is one of them. What a job says is kept and printed at the end, part by part, in the order in which parts.py
-names them; in between a line every half minute says what is running and how many are done. A job ends in one line 'N passed, M failed';
-one that could not run, or that ends badly without a failure, counts as failed.
+"""The test command: `rt ci` over the whole checkout as it stands, by itself, and then the pool of the jobs that parts.py names, two at a
+time (TEST_JOBS in the environment says otherwise). What `rt ci` says is shown as it comes; what a job says is kept and printed at the end,
+part by part, in the order in which parts.py names them; in between a line every half minute says what is running and how many are done. A
+job ends in one line 'N passed, M failed'; one that could not run, or that ends badly without a failure, counts as failed.
 usage: gate.py [--long]"""
 
 import contextlib
 import fcntl
 import os
 import re
+import shutil
 import signal
 import subprocess
 import sys
@@ -18,14 +19,14 @@ import traceback
 import parts
 
 TALLY = re.compile(r"(\d+) passed, (\d+) failed$")
+# Edits that `rt ci` could not try: it passes all the same, and this does not.
+BAD = re.compile(r"^rt: ok;.*, (\d+) bad", re.M)
 SIGNALS = (signal.SIGTERM, signal.SIGHUP, signal.SIGQUIT, signal.SIGINT)
 
 
-def start(job, log, lock):
+def start(command, log, kept=()):
     """In a session of its own, so that it can be ended with all its children; a job holds the lock as long as it lives."""
-    environment = {**os.environ, **job.environment}
-    kept = [] if lock is None else [lock]
-    return subprocess.Popen(job.command, stdout=log, stderr=subprocess.STDOUT, env=environment, start_new_session=True, pass_fds=kept)
+    return subprocess.Popen(command, stdout=log, stderr=subprocess.STDOUT, start_new_session=True, pass_fds=kept)
 
 
 def result(status, said):
@@ -42,6 +43,13 @@ def result(status, said):
     return passed, failed, "\n".join(lines)
 
 
+def of_proofs(status, said):
+    """Passed and failed of `rt ci`: its own count, and each edit that it calls bad. It ends well only with its line 'rt: ok'."""
+    passed, failed, _ = result(status, said)
+    failed += sum(map(int, BAD.findall(said)))
+    return passed, failed + (failed == 0 and not re.search(r"^rt: ok;", said, re.M))
+
+
 def end_group(process):
     with contextlib.suppress(ProcessLookupError):
         os.killpg(process.pid, signal.SIGKILL)
@@ -50,15 +58,34 @@ def end_group(process):
 class Pool:
     def __init__(self, names, jobs, most=2, lock=None):
         self.parts, self.jobs, self.waiting = names, jobs, list(jobs)
-        self.most, self.lock = most, lock
+        self.most, self.kept = most, () if lock is None else (lock,)
         assert all(job.part in names for job in jobs)
-        self.running, self.results, self.seconds = {}, {}, {}
+        self.running, self.results, self.seconds, self.well = {}, {}, {}, set()
         self.began = self.told = time.time()
 
-    def end(self, job, passed, failed, said, took):
+    def end(self, job, passed, failed, said, took, well=False):
         self.results[job], self.seconds[job] = (passed, failed, said), took
+        if well or not failed:
+            self.well.add(job.name)
         if failed:
             print(f"failed: {job.part}: {job.name}", flush=True)
+
+    def prove(self, job, log):
+        """Runs `rt ci` before all else, and shows and keeps what it says. Bad edits fail it, but nothing else need wait for that."""
+        began = time.time()
+        process = start(job.command, subprocess.PIPE, self.kept)
+        try:
+            with open(log, "wb") as kept:
+                for line in process.stdout:
+                    kept.write(line)
+                    print(line.decode("utf8", "replace"), end="", flush=True)
+            process.wait()
+        finally:
+            end_group(process)
+        with open(log, encoding="utf8", errors="replace") as kept:
+            passed, failed = of_proofs(process.returncode, kept.read())
+        self.jobs.insert(0, job)
+        self.end(job, passed, failed, "", time.time() - began, process.returncode == 0)
 
     def reap(self):
         for job, (process, log, began) in list(self.running.items()):
@@ -70,20 +97,24 @@ class Pool:
                 log.close()
                 self.end(job, *result(process.returncode, said), time.time() - began)
 
+    def has_room(self, job):
+        if job.alone or any(other.alone for other in self.running):
+            return not self.running
+        return len(self.running) < self.most
+
     def fill(self):
         """Starts what is ready. Where nothing runs and nothing is ready, what the others wait for never comes."""
-        done = {job.name for job in self.results}
         for job in list(self.waiting):
-            if len(self.running) < self.most and job.ready(done):
+            if self.has_room(job) and not job.missing(self.well):
                 self.waiting.remove(job)
                 log = tempfile.TemporaryFile()
                 try:
-                    self.running[job] = (start(job, log, self.lock), log, time.time())
+                    self.running[job] = (start(job.command, log, self.kept), log, time.time())
                 except OSError as error:
                     self.end(job, 0, 1, f"{job.name}: it cannot be started: {error}", 0)
-        if not self.running and not any(job.ready(done) for job in self.waiting):
+        if not self.running and all(job.missing(self.well) for job in self.waiting):
             for job in self.waiting:
-                self.end(job, 0, 1, f"{job.name}: what it waits for did not come: {' '.join(job.missing(done)) or 'target/'}", 0)
+                self.end(job, 0, 1, f"{job.name}: what it waits for did not end well: {', '.join(job.missing(self.well))}", 0)
             self.waiting = []
 
     def tell(self):
@@ -100,12 +131,9 @@ class Pool:
                 self.fill()
                 self.tell()
                 time.sleep(0.1)
-        except BaseException:
-            for number in SIGNALS:
-                signal.signal(number, signal.SIG_IGN)
+        finally:
             for process, _, _ in self.running.values():
                 end_group(process)
-            raise
 
     def report(self):
         """Each part's jobs together; gives what passed and failed in all."""
@@ -121,22 +149,26 @@ class Pool:
         return totals
 
 
-def run(words):
+def run(words, room):
     lock = os.open("tests", os.O_RDONLY)
     try:
         fcntl.flock(lock, fcntl.LOCK_EX | fcntl.LOCK_NB)
     except BlockingIOError:
         print("test: another run, or what it left behind, is still at work in this folder")
         return 0, 1
-    most = int(os.environ.get("TEST_JOBS", "2"))
-    for number in SIGNALS:
-        signal.signal(number, lambda *_: sys.exit(1))
-    subprocess.run(["rm", "-rf", "target"], check=True)
-    pool = Pool(parts.PARTS, parts.jobs(long=bool(words)), max(1, most), lock)
+    most = max(1, int(os.environ.get("TEST_JOBS", "2")))
+    pool = Pool(parts.PARTS, parts.jobs(bool(words), f"{room}/rt-ci"), most, lock)
+    pool.prove(parts.Job(parts.PROVED, parts.PROOFS, ["rt", "ci"]), f"{room}/rt-ci")
     pool.run()
     totals = pool.report()
     print(f"{time.time() - pool.began:.0f} s in all, {pool.most} jobs at a time on {os.uname().machine}")
     return totals
+
+
+def stop(*_):
+    for number in SIGNALS:
+        signal.signal(number, signal.SIG_IGN)
+    sys.exit(1)
 
 
 def main(words):
@@ -144,14 +176,20 @@ def main(words):
         print("usage: ./test [--long]", file=sys.stderr)
         return 2
     sys.stdout.reconfigure(errors="replace")
+    for number in SIGNALS:
+        signal.signal(number, stop)
+    # outside the repository, since `rt ci` reads all that lies in it
+    room = os.environ["TEST_ROOM"] = tempfile.mkdtemp(prefix="station-test-")
     try:
-        passed, failed = run(words)
+        passed, failed = run(words, room)
     except SystemExit:
         print("test: ended by a signal")
         passed, failed = 0, 1
     except Exception:
         traceback.print_exc(file=sys.stdout)
         passed, failed = 0, 1
+    finally:
+        shutil.rmtree(room, ignore_errors=True)
     print(f"{passed} passed, {failed} failed")
     return failed > 0 or passed == 0
 

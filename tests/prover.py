@@ -1,25 +1,24 @@
-"""One check of a changed crate by the kit's prover, over what `rt ci` has proved in this same tree: its modules are taken from the proved
-libraries under target/rlib, and only those that the change reaches are proved again. The words are those that `rt` itself gives to
-`rattle check`. Nothing here writes to target/rlib; a module that is not found there, or is not current, is simply proved."""
+"""What the test command asks of the prover beside its own `rt ci`: copies of the repository, outside it, in which `rt ci` takes what it has
+kept on this machine; and one check of a crate, with changed crates below it passed as source, over the libraries of such a copy. The words
+of that check are those that `rt` itself gives to `rattle check`."""
 
 import contextlib
 import functools
 import os
-import re
 import resource
 import shutil
 import subprocess
-import sys
 import tempfile
 
 PARTS = ("src", "specs", "proofs")
+# What lies beside a crate's parts and is not copied: what `rt` made, and the edits, of which the caller says which are tried.
+LEFT = ("out", "must-fail", "edits")
 
 
 @functools.cache
 def kit():
     guide = subprocess.run(["rt", "doc"], stdout=subprocess.PIPE, text=True, check=True).stdout.strip()
-    home = os.path.dirname(os.path.dirname(guide))
-    return home, os.path.join(home, "on", os.uname().machine)
+    return os.path.dirname(guide)
 
 
 @functools.cache
@@ -34,76 +33,85 @@ def crates(tree):
 
 
 def reached(tree, name):
-    """The libraries on which a crate stands, those of the kit too that a crate of the tree names."""
+    """The crates of the tree on which a crate stands, each after those that it uses."""
     found = {}
-    for below in crates(tree).get(name, ()):
-        found.update(dict.fromkeys([*reached(tree, below), below]))
+    for below in crates(tree)[name]:
+        if below in crates(tree):
+            found.update(dict.fromkeys([*reached(tree, below), below]))
     return list(found)
 
 
-def library(tree, name):
-    return f"{tree}/target/rlib/{name}.rlib" if name in crates(tree) else f"{kit()[1]}/rlib/{name}.rlib"
-
-
 @contextlib.contextmanager
-def room(tree):
-    """A folder for one check, below target/, which the next run removes whatever becomes of this one."""
-    os.makedirs(f"{tree}/target", exist_ok=True)
-    folder = os.path.realpath(tempfile.mkdtemp(dir=f"{tree}/target", prefix="check."))
+def room():
+    """A folder outside the repository: `rt ci` reads, and refuses, whatever else lies in one. The test command removes its rooms itself."""
+    folder = os.path.realpath(tempfile.mkdtemp(prefix="check-", dir=os.environ.get("TEST_ROOM")))
     try:
         yield folder
     finally:
         shutil.rmtree(folder, ignore_errors=True)
 
 
-def copy_crate(tree, name, to):
-    for part in PARTS:
-        if os.path.isdir(f"{tree}/crates/{name}/{part}"):
-            shutil.copytree(f"{tree}/crates/{name}/{part}", f"{to}/{part}")
+def copy_crates(tree, names, to):
+    """A repository of these crates and of those below them, without edits."""
+    wanted = [crate for crate in crates(tree) if crate in {other for name in names for other in [name, *reached(tree, name)]}]
+    os.makedirs(f"{to}/.git")
+    with open(f"{to}/crates.txt", "w", encoding="utf8") as listed:
+        listed.writelines(f"{crate}: {' '.join(crates(tree)[crate])}\n" for crate in wanted)
+    if os.path.exists(f"{tree}/HANDLES"):
+        shutil.copy(f"{tree}/HANDLES", to)
+
+    def left(folder, _):
+        return LEFT if os.path.dirname(folder) == f"{tree}/crates" else ()
+
+    for crate in wanted:
+        shutil.copytree(f"{tree}/crates/{crate}", f"{to}/crates/{crate}", ignore=left)
 
 
-def seed(tree, names, folder):
-    """An incremental folder of the modules that these crates' libraries carry as proved. They are copied, since the prover writes."""
-    os.makedirs(folder)
-    for name in names:
-        if not os.path.exists(f"{library(tree, name)}/format"):
-            sys.exit(f"{name} is not proved yet: rt check {name}")
-        build = re.search(r"^rattle-build (\S+)$", open(f"{library(tree, name)}/format", encoding="utf8").read(), re.M)
-        checked = f"{library(tree, name)}/toolchain/checked"
-        if build and os.path.isdir(checked):
-            shutil.copytree(checked, f"{folder}/{build[1].replace('/', '_')}", dirs_exist_ok=True)
+def ci(folder, anew=False):
+    """`rt ci` over such a copy, which proves only what it has not kept. Gives the exit status and what it said."""
+    ended = subprocess.run(["rt", "ci", *(["--anew"] if anew else [])], cwd=folder, stdout=subprocess.PIPE, stderr=subprocess.STDOUT)
+    return ended.returncode, ended.stdout.decode("utf8", "replace")
 
 
 def root_file(folder):
     return next(f"{folder}/src/{file}" for file in ("main.rt", "lib.rt") if os.path.exists(f"{folder}/src/{file}"))
 
 
-def check(tree, name, folders, incremental=None):
-    """Checks the crate `name`; `folders` has the folder of each changed crate, its own among them. A changed crate below it is passed as
-    source. Gives the exit status and what the prover said."""
-    home, own = kit()
-    words = ["--crate-name", name, root_file(folders[name]), "--extern", f"std={own}/rlib/std.rlib"]
-    passed = dict.fromkeys(crates(tree)[name])
-    for source in [below for below in reached(tree, name) if below in folders]:
-        passed.update(dict.fromkeys([source, *crates(tree)[source]]))
-    for below in passed:
-        if below in folders:
-            words += ["--lib", f"{below}:{','.join(crates(tree)[below])}={root_file(folders[below])}"]
+def check(proved, name, sources, kept, jobs=1):
+    """Checks the crate `name`. `sources` has the folder of each crate that is passed as source, its own among them; the others are the
+    libraries that `rt ci` left in the copy `proved`. What is checked is kept in the folder `kept`, and taken from there where it still
+    holds. Gives the exit status and what the prover said."""
+    home, named = kit(), crates(proved)
+    library = f"{proved}/crates/%s/out/rlib/%s.rlib"
+    words = ["--crate-name", name, root_file(sources[name])]
+    words += [word for kits in ("core", "std") for word in ("--extern", f"{kits}={home}/rlibs/{kits}.rlib")]
+    for below in reached(proved, name):
+        if below in sources:
+            words += ["--lib", f"{below}:{','.join(['core', 'std', *named[below]])}={root_file(sources[below])}"]
         else:
-            words += ["--extern", f"{below}={library(tree, below)}"]
-    words += ["-L", f"dependency={tree}/target/rlib", "-L", f"dependency={own}/rlib"]
-    words += ["--antt-project", f"{home}/logic/antt-project.json", "--logic-built", f"{own}/logic-built"]
-    if incremental:
-        words += ["--incremental", incremental]
-    ended = subprocess.run([f"{own}/bin/rattle", "check", *words], stdout=subprocess.PIPE, stderr=subprocess.STDOUT)
+            if any(below in named[source] for source in sources):
+                words += ["--extern", f"{below}={library % (below, below)}"]
+            words += ["-L", f"dependency={os.path.dirname(library % (below, below))}"]
+    words += ["-L", f"dependency={home}/rlibs", "--antt-project", f"{home}/rattle/logic/antt-project.json"]
+    words += ["--logic-built", f"{home}/logic_built", "--incremental", kept, "--jobs", str(jobs)]
+    how = {"stdin": subprocess.DEVNULL, "stdout": subprocess.PIPE, "stderr": subprocess.STDOUT}
+    ended = subprocess.run([f"{home}/bin/rattle", "check", *words], **how)
     return ended.returncode, ended.stdout.decode("utf8", "replace")
 
 
+def linked(folder, to):
+    """Copies what a check kept, by links where these can be made: the prover replaces such a file and never writes into it."""
+
+    def copy(one, other):
+        with contextlib.suppress(OSError):
+            if one.endswith(".oantt"):
+                return os.link(one, other)
+        return shutil.copy2(one, other)
+
+    shutil.copytree(folder, to, copy_function=copy, dirs_exist_ok=True)
+
+
 def processor_seconds():
-    """Of the checks that have ended: a wall clock would count what runs beside."""
+    """Of the commands that have ended: a wall clock would count what runs beside."""
     used = resource.getrusage(resource.RUSAGE_CHILDREN)
     return used.ru_utime + used.ru_stime
-
-
-def first_error(said):
-    return next((line for line in said.splitlines() if ": error" in line), "")

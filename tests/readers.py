@@ -1,5 +1,5 @@
 """Our programs and a stock reader and writer of RFC 4180 text, Python's csv module; texts at the limit of 65,536 bytes, far above it, and
-in small pieces. Run by ./test, which builds the programs first. Ends in one line 'N passed, M failed'."""
+in small pieces. Run by ./test, once `rt ci` has built the programs. Ends in one line 'N passed, M failed'."""
 
 import csv
 import glob
@@ -8,12 +8,12 @@ import os
 import subprocess
 import sys
 
-TOTALS, TRACE = "target/start/totals", "target/start/trace"
+TOTALS, TRACE = "crates/totals/out/totals", "crates/trace/out/trace"
 TABLE_HEADER = ["task", "count", "sum", "least", "greatest"]
 TRACE_HEADER = ["row", "number", "first", "second", "third", "fourth"]
 LONGEST = 65_536
-# What the programs may use with the emulator around them: a few tens of megabytes, and nothing that grows with the input.
-MOST_MEMORY = 256 << 20
+# What the programs may use, with the Python that starts them: a few tens of megabytes, and nothing that grows with the input.
+MOST_MEMORY = 64 << 20
 REFUSED_10 = b"refused\r\n10\r\n"
 passed = failed = 0
 

@@ -1,13 +1,13 @@
 -- A channel is first in, first out: adding appends to what is held, taking gives its head and leaves the rest; and a refusal hands
 -- the channel back as it came.
-use mathlib.Core.Path.{◌≡◌, refl, sym, ap, ap₂, ◌∙◌}
+use mathlib.Core.Path.{◌≡◌, ap}
 use mathlib.Core.List.{List, [], ◌∷◌, ◌++◌}
 use Prim.Native.Nat.{ℕ, zero, suc, ◌-◌, ◌≤◌, ◌<◌}
 use native.Mathlib.Numerals.{add-one}
 use native.Mathlib.Omega.{arith}
 use borrow.Author.Tests.{le-ltb, lt-ltb, eq-eqb, ne_eqb}
 use lib.ListN.{length, take, drop, get_or, length-drop}
-use lib.Seq.{take-nil, take-suc-set, take-append-le}
+use lib.Seq.{take-suc-set, take-append-le}
 use Rattle.channel.specs.Channels.{held, barrier, with_item, without_head}
 use Rattle.channel.specs.declared.Channel.{Channel}
 use Rattle.channel.specs.declared.Item.{Item}

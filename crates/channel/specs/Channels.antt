@@ -3,7 +3,7 @@
 --    8 items 14, taking from none 13, each with the channel as it came and, for taking, a barrier."
 -- `held` is what a reader thinks of: the list of the items, the head first. That adding appends to it and taking gives its head and
 -- leaves the rest is proved in proofs/Queues.antt.
-use Rattle.std.specs.Prelude.{◌≡◌, refl, cond, List, [], ◌∷◌, ◌++◌, ℕ, ◌+◌, ◌-◌, ltb, eqb, pos, take, drop, set, get_or, replicate}
+use Rattle.std.specs.Prelude.{◌≡◌, refl, cond, List, [], ◌∷◌, ◌++◌, ◌+◌, ◌-◌, ltb, eqb, pos, take, drop, set, get_or, replicate}
 use Rattle.channel.specs.declared.Item.{Item}
 use Rattle.channel.specs.declared.Cargo.TheVariants.{Barrier, Record}
 use Rattle.channel.specs.declared.Channel.{Channel}

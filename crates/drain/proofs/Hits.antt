@@ -7,26 +7,18 @@ use native.Mathlib.Nat.{mod-eq_of_lt}
 use native.Mathlib.Omega.{arith}
 use lib.Dec.{ltb, leb}
 use lib.IntN.{ℤ}
-use lib.ListN.{get_or, set}
-use borrow.Author.Tests.{leb-false, ltb-true, ltb-false}
-use Rattle.tally.specs.declared.Record.{Record}
-use Rattle.tally.specs.declared.Totals.{Totals}
-use Rattle.tally.specs.Totals.{with_value}
+use lib.ListN.{get_or}
+use borrow.Author.Tests.{leb-false}
 use Rattle.channel.specs.declared.Cargo.{Cargo}
-use Rattle.channel.specs.declared.Cargo.TheVariants.{Record as Recorded}
-use Rattle.channel.specs.declared.Channel.{Channel}
 use Rattle.job.specs.declared.Job.{Job}
 use Rattle.job.specs.Jobs.{JobSized, kind_of, b_of, to_of}
 use Rattle.run.specs.declared.Run.{Run}
-use Rattle.run.specs.Runs.{with_channels, with_live}
-use Rattle.run.specs.Fit.{channel_at, totals_at, count_at, Fits}
-use Rattle.outputs.specs.Outputs.{some_full, put_all}
-use Rattle.outputs.proofs.Sending.{put_to}
-use Rattle.step.specs.Algorithm.{taken_in}
+use Rattle.run.specs.Fit.{channel_at, totals_at, count_at}
+use Rattle.outputs.specs.Outputs.{some_full}
 use Rattle.drain.specs.Drains.{possible}
 use Rattle.flat.specs.Columns.{head_of, is_barrier}
-use Rattle.drain.specs.Ready.{delivers_by, source_of, acts_by, task_by, channel_by}
-use Rattle.drain.specs.Sending.{brought_by, left_on}
+use Rattle.drain.specs.Ready.{delivers_by, source_of, acts_by}
+use Rattle.drain.specs.Sending.{brought_by}
 use Rattle.drain.proofs.Possible.{delivery_ready_lem, source_ready_lem}
 
 module _ (job : Job) (cs vs : List ℤ) (run : Run) (full : List Bool)

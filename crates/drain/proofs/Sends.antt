@@ -1,12 +1,12 @@
 -- What a task sends, channel by channel: the columns' words (`sent_at`, `sent_to`) are those of the step rules (`sent_all`).
-use mathlib.Core.Path.{◌≡◌, refl, sym, ap, ◌∙◌}
+use mathlib.Core.Path.{◌≡◌, refl, ap, ◌∙◌}
 use mathlib.Core.Bool.{Bool, true, false}
 use mathlib.Core.List.{List}
 use Prim.Native.Nat.{ℕ, zero, suc, ◌+◌, ◌<◌, ◌≤◌}
 use native.Mathlib.Numerals.{add-one}
 use native.Mathlib.Omega.{arith}
 use lib.Dec.{eqb}
-use lib.IntN.{ℤ, pos}
+use lib.IntN.{ℤ}
 use lib.ListN.{get_or, set}
 use mir.Val.{bool_byte}
 use Rattle.tally.specs.declared.Record.{Record}
@@ -17,7 +17,7 @@ use Rattle.job.specs.Jobs.{is_output, place_of, kind_of, a_of, b_of}
 use Rattle.run.specs.Runs.{no_channel}
 use Rattle.outputs.specs.Outputs.{each_place, put_all}
 use Rattle.outputs.specs.Parts.{carried_by}
-use Rattle.outputs.proofs.Sending.{put_to, put_here, not_here, put_same}
+use Rattle.outputs.proofs.Sending.{put_to, put_here, not_here}
 use Rattle.drain.specs.Sending.{outputs_by}
 use Rattle.flat.specs.Columns.{channel_in, channels_in}
 use Rattle.drain.specs.Sending.{sent_at, sent_to}

@@ -3,11 +3,11 @@
 use mathlib.Core.Path.{◌≡◌, refl, sym, ap, ap₂, ◌∙◌}
 use mathlib.Core.Bool.{Bool, true, false, cond}
 use mathlib.Core.List.{List}
-use Prim.Native.Nat.{ℕ, zero, suc, ◌+◌, ◌%◌, ◌<◌, ◌≤◌}
+use Prim.Native.Nat.{ℕ, zero, suc, ◌+◌, ◌%◌, ◌<◌}
 use native.Mathlib.Nat.{mod-lt}
 use native.Mathlib.Omega.{arith}
 use lib.Dec.{ltb}
-use lib.IntN.{ℤ, pos}
+use lib.IntN.{ℤ}
 use lib.ListN.{get_or, set, replicate}
 use borrow.Author.Tests.{ltb-true, ltb-false}
 use Rattle.tally.specs.declared.Record.{Record}
@@ -19,7 +19,7 @@ use Rattle.job.specs.Jobs.{JobSized, kind_of, a_of, b_of}
 use Rattle.run.specs.declared.Run.{Run}
 use Rattle.run.specs.Runs.{no_channel, with_channels, with_live}
 use Rattle.run.specs.Fit.{channel_at, totals_at, count_at, Fits}
-use Rattle.outputs.specs.Outputs.{some_full, put_all}
+use Rattle.outputs.specs.Outputs.{some_full}
 use Rattle.step.specs.Step.{stepped}
 use Rattle.step.specs.Algorithm.{taken_in}
 use Rattle.drain.specs.Ready.{delivers_by, acts_by, task_by, channel_by, possible_in, noted_to}
@@ -31,7 +31,7 @@ use Rattle.drain.proofs.Hits.{delivery_hit, source_hit}
 use Rattle.drain.proofs.Brings.{Brings}
 use Rattle.flat.specs.Columns.{head_of, is_barrier, barrier_in, channel_in, channels_in, Tells}
 use Rattle.drain.proofs.Sends.{channel_at_lem, outputs_place, sent_all}
-use Rattle.drain.proofs.Asking.{count_at_lem, channel_small}
+use Rattle.drain.proofs.Asking.{count_at_lem}
 
 -- a search asks its test only of its own numbers
 first_same : (k i : ℕ) (f g : ℕ → Bool) → ((j : ℕ) → j < k + i → f j ≡ g j) → first_from k i f ≡ first_from k i g

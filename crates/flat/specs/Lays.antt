@@ -1,6 +1,5 @@
 -- A run laid out in columns and read back, item by item.
 use Rattle.std.specs.Prelude.{List, ℕ, zero, suc, ◌+◌, ℤ, pos, get_or, set}
-use Rattle.channel.specs.declared.Item.{Item}
 use Rattle.channel.specs.declared.Cargo.{Cargo}
 use Rattle.channel.specs.declared.Cargo.TheVariants.{Barrier, Record as Recorded}
 use Rattle.channel.specs.declared.Channel.{Channel}

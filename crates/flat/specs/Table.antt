@@ -1,7 +1,7 @@
 -- What the columns read as, computed at the edges: a ring that goes round, the codes 0, 1 and 21, a head past the ring, and channel 1.
 use Rattle.std.specs.Prelude.{◌≡◌, refl, true, false, List, [], ◌∷◌, ℕ, ℤ, pos, negsuc}
 use Rattle.channel.specs.declared.Item.{Item}
-use Rattle.channel.specs.declared.Cargo.TheVariants.{Barrier, Record as Recorded}
+use Rattle.channel.specs.declared.Cargo.TheVariants.{Record as Recorded}
 use Rattle.channel.specs.Channels.{barrier}
 use Rattle.flat.specs.Columns.{table, item_in, head_in, barrier_in, channel_in}
 

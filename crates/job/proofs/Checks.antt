@@ -1,11 +1,9 @@
 -- What the check hands on, by the answers of lines 1 to 6 and of lines 7 to 9.
-use mathlib.Core.Path.{◌≡◌, refl, sym, ap, ◌∙◌}
-use mathlib.Core.Bool.{cond}
-use mathlib.Core.List.{List, ◌++◌}
+use mathlib.Core.Path.{◌≡◌, refl, sym, ◌∙◌}
+use mathlib.Core.List.{List}
 use Prim.Native.Nat.{ℕ}
 use native.Mathlib.Omega.{arith}
 use borrow.Author.Tests.{eq-eqb, ne_eqb}
-use lib.Dec.{eqb}
 use lib.IntN.{ℤ}
 use Rattle.job.specs.Columns.{Columns, columns, tasks_and_channels}
 use Rattle.job.specs.Jobs.{job_of, Small}

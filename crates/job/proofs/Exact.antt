@@ -3,14 +3,14 @@ use mathlib.Core.Path.{◌≡◌, refl, sym, ap, ◌∙◌}
 use mathlib.Core.Bool.{Bool, true, false, true≢false}
 use mathlib.Core.List.{List, ◌++◌}
 use mathlib.Core.Logic.{◌↔◌}
-use Prim.Native.Nat.{ℕ, zero, suc, ◌+◌, ◌<◌, ◌≤◌}
+use Prim.Native.Nat.{ℕ, suc, ◌+◌, ◌<◌, ◌≤◌}
 use native.Mathlib.Omega.{arith}
 use borrow.Author.Tests.{eqb-true, eqb-false, ltb-true, ltb-false}
 use lib.Dec.{eqb, ltb}
 use lib.ListN.{get_or, get_or-eq_default}
 use Rattle.job.specs.Columns.{Columns}
 use Rattle.job.specs.Jobs.{job_of, JobSized}
-use Rattle.job.specs.Rules.{column_faults, graph_faults, first_fault, job_answer, fault7, fault8, fault9, Returning, TooMany}
+use Rattle.job.specs.Rules.{column_faults, graph_faults, job_answer, fault8, fault9, Returning, TooMany}
 use Rattle.job.specs.Exact.{Exact, None1, None2, None3, None4, None5, None6, None7, None8, None9}
 use Rattle.job.proofs.First.{First, first_is, is_first, first_none, none_first}
 use Rattle.job.proofs.Fine.{Fine, sized}

@@ -1,21 +1,20 @@
 -- What it says of the columns that lines 1 to 6 do not hold: lengths and bounds, and that every number fits its place in the job by value.
-use mathlib.Core.Path.{◌≡◌, refl, sym, ap, ◌∙◌, subst}
-use mathlib.Core.Bool.{Bool, true, false, not, ◌||◌, ◌&&◌, false≢true, true≢false}
-use mathlib.Core.List.{List, [], ◌∷◌}
-use Prim.Native.Nat.{ℕ, zero, suc, ◌+◌, ◌<◌, ◌≤◌}
+use mathlib.Core.Path.{◌≡◌, refl, sym, ap, ◌∙◌}
+use mathlib.Core.Bool.{true, false, not, ◌||◌, ◌&&◌}
+use mathlib.Core.List.{List}
+use Prim.Native.Nat.{ℕ, ◌<◌, ◌≤◌}
 use native.Mathlib.Omega.{arith}
-use borrow.Author.Tests.{not-false, ltb-false, leb-true, leb-false, eqb-true, eqb-false}
-use lib.Dec.{eqb, ltb, leb}
-use lib.IntN.{ℤ, pos, negsuc, nat_abs, ◌+ℤ◌}
-use lib.ListN.{length, get_or}
-use lib.Signed.{le_z, lt_z}
+use borrow.Author.Tests.{not-false, ltb-false, eqb-true, eqb-false}
+use lib.Dec.{eqb, ltb}
+use lib.IntN.{ℤ, pos, nat_abs, ◌+ℤ◌}
+use lib.ListN.{length}
+use lib.Signed.{lt_z}
 use Rattle.kinds.specs.Kinds.{within, is_value}
-use Rattle.job.specs.Tests.{some, filled}
-use Rattle.job.specs.Columns.{Columns, number_of, outside, unequal, no_task, bad_task, bad_part, bad_record, bad_records, Bytes, RecordsFit}
+use Rattle.job.specs.Columns.{Columns, number_of, outside, unequal, no_task, bad_task, bad_part, bad_record, bad_records, RecordsFit}
 use Rattle.job.specs.Columns.{fault1, fault2, fault3, fault4, fault5, fault6}
-use Rattle.job.specs.Jobs.{job_of, bytes_in, numbers_in, Small, JobSized, kind_of, is_source, a_of, b_of, from_of, to_of}
+use Rattle.job.specs.Jobs.{job_of, Small, JobSized, kind_of, is_source, a_of, b_of, from_of, to_of}
 use Rattle.job.specs.Rules.{column_faults, first_fault}
-use Rattle.job.proofs.Bools.{both_true, neither}
+use Rattle.job.proofs.Bools.{neither}
 use Rattle.job.proofs.Ints.{within_wider, zero_within, named, named_within}
 use Rattle.job.proofs.Tests.{some_none, filled_at}
 use Rattle.job.proofs.First.{first_none}

@@ -10,7 +10,7 @@ use lib.ListN.{length}
 use lib.Signed.{le_z, lt_z}
 use Rattle.kinds.specs.Kinds.{within, Scales}
 use Rattle.job.specs.Columns.{Columns, number_of, outside, off_table, bad_task}
-use Rattle.job.specs.Jobs.{job_of, kind_of, a_of, b_of, is_source}
+use Rattle.job.specs.Jobs.{job_of, kind_of, a_of, is_source}
 use Rattle.job.specs.Rules.{fault7, job_answer}
 use Rattle.job.specs.Fits.{PartFits, JobFits}
 use Rattle.job.proofs.Bools.{both_true, neither}

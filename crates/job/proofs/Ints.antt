@@ -1,7 +1,7 @@
 -- Signed numbers within bounds, read as indices.
 use mathlib.Core.Path.{◌≡◌, ap₂}
 use mathlib.Core.Bool.{Bool, true, false, ◌&&◌, false≢true, true≢false}
-use Prim.Native.Nat.{ℕ, ◌<◌, ◌≤◌, ◌^◌}
+use Prim.Native.Nat.{ℕ, ◌<◌, ◌≤◌}
 use native.Mathlib.Omega.{arith}
 use borrow.Author.Tests.{leb-true, leb-false, le-leb}
 use lib.Dec.{T}

@@ -2,19 +2,19 @@
 --   a struck task lies on no returning walk, since all its inputs come from struck tasks;
 --   where no walk returns the tasks have a rank (`laws`), and as many sweeps as there are tasks strike them all.
 use mathlib.Core.Path.{◌≡◌, refl, sym, ap, ◌∙◌, subst}
-use mathlib.Core.Bool.{Bool, true, false, not, ◌||◌, true≢false, false≢true}
+use mathlib.Core.Bool.{Bool, true, false, not, ◌||◌, false≢true}
 use mathlib.Core.List.{List}
 use mathlib.Core.Logic.{◌⊎◌, inl, inr, ◌↔◌}
-use Prim.Native.Nat.{ℕ, zero, suc, ◌<◌, ◌≤◌}
+use Prim.Native.Nat.{ℕ, zero, suc, ◌<◌}
 use native.Mathlib.Omega.{arith}
 use borrow.Author.Tests.{eq-eqb, eqb-true, eqb-false, not-false}
 use lib.Dec.{eqb}
 use lib.ListN.{length, get_or, set, replicate, length-set, length-replicate}
 use lib.Seq.{get_or-set_same, get_or-set_other}
 use Rattle.laws.specs.Acyclic.{Walk as LawWalk, edge, then, cyclic, Ranked}
-use Rattle.laws.proofs.Acyclic.{cyclic_walk, walk_cyclic, ranked}
+use Rattle.laws.proofs.Acyclic.{cyclic_walk, ranked}
 use Rattle.job.specs.declared.Job.{Job}
-use Rattle.job.specs.Tests.{every, sweeps}
+use Rattle.job.specs.Tests.{every}
 use Rattle.job.specs.Jobs.{JobSized, from_of, to_of, is_input}
 use Rattle.job.specs.Graph.{graph_of}
 use Rattle.job.specs.Rules.{Walk, one, more, Returning, struck_before, strike, struck_tasks, fault8}

@@ -1,14 +1,14 @@
 -- Answer 9: what the code computes in sweeps, capped on the way, is the document's recursion capped (`worst_agree`), for every counts that
 -- keep to the recursion; and such counts there are, and only these (`worst_counts_lem`), where no walk returns.
 use mathlib.Core.Path.{◌≡◌, refl, sym, ap, ap₂, ◌∙◌}
-use mathlib.Core.Bool.{Bool, true, false, cond, true≢false, false≢true}
+use mathlib.Core.Bool.{Bool, true, false, cond}
 use mathlib.Core.List.{List}
 use mathlib.Core.Logic.{◌↔◌}
 use Prim.Native.Nat.{ℕ, zero, suc, ◌+◌, ◌<◌, ◌≤◌}
 use native.Mathlib.Omega.{arith}
-use borrow.Author.Tests.{ltb-true, ltb-false, lt-ltb, le-ltb, eqb-true, eq-eqb}
+use borrow.Author.Tests.{ltb-true, ltb-false, lt-ltb, eqb-true}
 use lib.Dec.{eqb, ltb}
-use lib.IntN.{ℤ, nat_abs}
+use lib.IntN.{nat_abs}
 use lib.ListN.{get_or, replicate, length-replicate}
 use Rattle.laws.specs.Sums.{nat_mon, pick, sum_n}
 use Rattle.laws.specs.Acyclic.{Ranked}
@@ -16,10 +16,10 @@ use Rattle.laws.specs.Accepted.{worst}
 use Rattle.laws.proofs.Sums.{sum_ext}
 use Rattle.laws.proofs.Below.{eqb_sym}
 use Rattle.job.specs.declared.Job.{Job}
-use Rattle.job.specs.Tests.{some, sweeps}
+use Rattle.job.specs.Tests.{some}
 use Rattle.job.specs.Jobs.{JobSized, from_of, to_of, b_of, is_source, is_input}
 use Rattle.job.specs.Graph.{graph_of, part_length}
-use Rattle.job.specs.Rules.{has_input, fault7, bad_input, inflow, WorstCounts, TooMany, capped, brought_by, capped_inflow, worst_anew, worst_counts, fault9}
+use Rattle.job.specs.Rules.{fault7, inflow, WorstCounts, TooMany, capped, brought_by, capped_inflow, worst_anew, worst_counts, fault9}
 use Rattle.job.proofs.Ints.{within_nat_abs}
 use Rattle.job.proofs.Tests.{some_none, some_one, one_some}
 use Rattle.job.proofs.Inputs.{source_alone}

@@ -1,5 +1,5 @@
 -- What the later layers use of an accepted job, in one record; that answer 0 implies it is `accepted_fits` in proofs/Fits.antt.
-use Rattle.std.specs.Prelude.{◌≡◌, Bool, true, false, ℕ, ◌+◌, ◌<◌, ◌≤◌, pos, nat_abs}
+use Rattle.std.specs.Prelude.{◌≡◌, true, false, ℕ, ◌+◌, ◌<◌, ◌≤◌, pos, nat_abs}
 use Rattle.std.specs.Int.Signed.{le_z}
 use Rattle.laws.specs.Acyclic.{Ranked}
 use Rattle.laws.specs.Accepted.{worst}

@@ -1,7 +1,7 @@
 -- The table of job answers (document 01): rules 7 to 9 over the job by value, and the answer as the first rule in order that fails.
 -- A reader believes `Walk`, `WorstCounts` and the tests 1 to 7; that each number is given exactly when its line holds is `exact` in
 -- proofs/Exact.antt, with `Walk` for line 8 and `WorstCounts` for line 9.
-use Rattle.std.specs.Prelude.{◌≡◌, Bool, true, false, cond, ◌&&◌, ◌||◌, not, List, [], ◌∷◌, ◌++◌, ◌↔◌, ℕ, zero, suc, ◌+◌, ◌<◌, eqb, ltb, ℤ, nat_abs, length, get_or, replicate}
+use Rattle.std.specs.Prelude.{◌≡◌, Bool, true, false, cond, ◌||◌, not, List, [], ◌∷◌, ◌++◌, ℕ, zero, suc, ◌+◌, ◌<◌, eqb, ltb, nat_abs, length, get_or, replicate}
 use Rattle.job.specs.Tests.{some, every, sweeps}
 use Rattle.job.specs.Columns.{Columns, fault1, fault2, fault3, fault4, fault5, fault6}
 use Rattle.job.specs.Jobs.{job_of, no_job, b_of, from_of, to_of, is_source, is_input}

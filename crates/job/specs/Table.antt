@@ -1,6 +1,6 @@
 -- Worked jobs, computed from the definitions: document 01's own (the station, the chains of doubled channels, too few and too many tasks, a
 -- task fed by itself) and the edges of each line.
-use Rattle.std.specs.Prelude.{◌≡◌, refl, Bool, false, ◌||◌, List, [], ◌∷◌, ◌++◌, ℕ, zero, suc, ◌≤◌, ℤ, pos, negsuc, length, replicate}
+use Rattle.std.specs.Prelude.{◌≡◌, refl, Bool, false, ◌||◌, List, [], ◌∷◌, ℕ, zero, suc, ◌≤◌, ℤ, pos, negsuc, length, replicate}
 use Rattle.std.proofs.Common.{ap, ap₂, arith}
 use Rattle.std.proofs.lemmas.List.{get_or-replicate}
 use Rattle.job.specs.Tests.{some, every, filled, sweep, sweeps}

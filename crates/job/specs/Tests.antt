@@ -1,5 +1,5 @@
 -- Tests over the numbers below n, lists that are filled place by place, and sweeps over a list: the words of the rules.
-use Rattle.std.specs.Prelude.{Bool, true, false, ◌&&◌, ◌||◌, not, List, ℕ, zero, suc, set, replicate}
+use Rattle.std.specs.Prelude.{Bool, true, false, ◌&&◌, ◌||◌, List, ℕ, zero, suc, set, replicate}
 
 -- some number below n passes
 unfoldable pub some : (ℕ → Bool) → ℕ → Bool

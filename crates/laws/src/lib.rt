@@ -2,4 +2,3 @@
 // specs/ holds what a reader must believe (specs/Lib.antt is the index), proofs/ what only proves (proofs/Lib.antt).
 // A later crate reads its own run as a run of this theory and takes the promises from here.
 #![tactic(auto)]
-

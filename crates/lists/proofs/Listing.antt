@@ -1,13 +1,12 @@
 -- A list of steps: it keeps a fitting run fitting, and each of its two numbers is at most the number of steps.
-use mathlib.Core.Path.{◌≡◌, refl, ap, ◌∙◌, subst, sym}
-use mathlib.Core.Bool.{Bool, true, false, not}
+use mathlib.Core.Path.{◌≡◌, ap}
+use mathlib.Core.Bool.{not}
 use mathlib.Core.List.{List}
-use Prim.Native.Nat.{ℕ, zero, suc, ◌+◌, ◌≤◌, ◌<◌}
+use Prim.Native.Nat.{ℕ, zero, suc, ◌+◌, ◌≤◌}
 use native.Mathlib.Numerals.{add-one}
 use native.Mathlib.Omega.{arith}
 use lib.IntN.{ℤ}
 use lib.ListN.{length, get_or}
-use mir.Val.{bool_byte}
 use Rattle.job.specs.declared.Job.{Job}
 use Rattle.job.specs.Columns.{RecordsFit}
 use Rattle.job.specs.Fits.{JobFits}

@@ -1,7 +1,7 @@
 -- What the fit says of one item: a record's cylinder is 1 to 20 and its value one of 32 bits.
 use mathlib.Core.Path.{◌≡◌}
 use mathlib.Core.Bool.{true, ◌&&◌}
-use Prim.Native.Nat.{ℕ, ◌≤◌}
+use Prim.Native.Nat.{◌≤◌}
 use borrow.Author.Tests.{leb-true}
 use lib.Dec.{leb}
 use Rattle.tally.specs.declared.Record.{Record}

@@ -26,10 +26,9 @@ use Rattle.rows.specs.Decimals.{digits_in, digits, decimal}
 use Rattle.rows.specs.Rows.{fields_of}
 use Rattle.traced.specs.Lines.{lines_to}
 use Rattle.traced.specs.Traces.{run_after}
-use Rattle.table.specs.Tables.{header, listed, drained, table_of}
-use Rattle.table.specs.Outputs.{answer_to}
+use Rattle.table.specs.Tables.{header, listed, drained}
 use Rattle.table.proofs.Answers.{answer_table, table_done}
-use Rattle.printed.specs.Printed.{direct_table, TotalsDirect, OneRun, WorkedTotals}
+use Rattle.printed.specs.Printed.{TotalsDirect, OneRun, WorkedTotals}
 
 module _ (J : Columns) (ok : job_answer J ≡ 0) (numbers : List ℕ) where
   -- the list of steps leads to a grown run

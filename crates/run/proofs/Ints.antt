@@ -8,9 +8,9 @@ use lib.Signed.{mag, le_z}
 use borrow.Author.Tests.{leb-true, le-leb}
 use Rattle.kinds.specs.Kinds.{is_value}
 use Rattle.job.proofs.Bools.{both_true}
-use mir.Facts.{to_z-of_z, to_z_pos}
+use mir.Facts.{to_z_pos}
 use mir.Syntax.{w32, w64}
-use mir.Val.{SFits, to_z, of_z}
+use mir.Val.{SFits, to_z}
 
 pub times_is : (n k : ℕ) → n < 2 ^ 62 → to_z w64 n *ℤ pos k ≡ pos (n * k)
 times_is n k few = ap (λ z. z *ℤ pos k) (to_z_pos w64 {n = n} (omega arith)) ∙ pos-*ℤ-pos n k

@@ -10,7 +10,7 @@ use lib.ListN.{length}
 use Rattle.job.specs.declared.Checked.{Checked}
 use Rattle.job.specs.declared.Job.{Job}
 use Rattle.job.specs.Columns.{Columns, RecordsFit}
-use Rattle.job.specs.Jobs.{job_of, JobSized}
+use Rattle.job.specs.Jobs.{job_of}
 use Rattle.job.specs.Rules.{job_answer, refused_by, checked_of}
 use Rattle.job.specs.Fits.{JobFits}
 use Rattle.job.proofs.Fine.{fine4}

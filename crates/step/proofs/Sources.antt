@@ -1,12 +1,12 @@
 -- Sources and deliveries: what the tests of the step rules say.
-use mathlib.Core.Path.{◌≡◌, refl, sym, ap, ◌∙◌, subst}
+use mathlib.Core.Path.{◌≡◌, refl, sym, subst}
 use mathlib.Core.Bool.{Bool, true, false, not, true≢false}
-use Prim.Native.Nat.{ℕ, ◌+◌, ◌<◌, ◌≤◌}
+use Prim.Native.Nat.{ℕ, ◌<◌}
 use native.Mathlib.Omega.{arith}
-use borrow.Author.Tests.{not-false, leb-false, lt-leb, ltb-false, eq-eqb, ne_eqb, eqb-false}
+use borrow.Author.Tests.{not-false, leb-false, lt-leb, eq-eqb, ne_eqb, eqb-false}
 use lib.Dec.{ltb, leb, eqb}
-use lib.IntN.{ℤ, pos, negsuc, nat_abs}
-use lib.ListN.{get_or, length}
+use lib.IntN.{ℤ, pos, negsuc}
+use lib.ListN.{get_or}
 use lib.Signed.{le_z, non_neg}
 use lib.Dec.{T}
 use Rattle.channel.specs.declared.Cargo.{Cargo}

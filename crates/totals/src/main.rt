@@ -1,13 +1,31 @@
 // Reads a station's text from standard input and prints a table of totals (document 01).
 #![tactic(auto)]
 
-use libc::{STDIN_FILENO, STDOUT_FILENO};
+ghost use Rattle.std.specs.Prelude.{◌≤◌, IfOk, length};
+
+use std::io;
+use std::io::{Print, Read};
+
+// Reads until the text is full or the input ends, and answers how many bytes it put at the start of the text.
+fn read_full<R: Read>(reader: &mut R, text: &mut [u8]) -> io::Result<usize>
+    ensures { IfOk result (λ n. n ≤ length text.new) }
+{
+    let mut done = 0;
+    while done < text.len() {
+        let n = reader.read(&mut text[done..])?;
+        if n == 0 {
+            break;
+        }
+        done += n;
+    }
+    Ok(done)
+}
 
 // One byte more than a text may have is read, so that a longer one is seen, and no more.
-fn main() {
+fn main(rt: HostRuntime) -> io::Result<()> {
     let mut text = [0u8; 65537];
-    let n = io::read_full(STDIN_FILENO, &mut text);
+    let n = read_full(&mut rt.stdin(), &mut text)?;
     let mut out = table::buffer();
     let length = table::print(&text[..n], false, &mut out);
-    io::write_all(STDOUT_FILENO, &out[..length]);
+    rt.stdout().write_all(&out[..length])
 }

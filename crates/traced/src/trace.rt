@@ -11,6 +11,7 @@ use rows::put_row;
 use run::Run;
 
 // A word, three numbers and two zeros.
+#[tactic(auto, using(crate::proofs::Writing::five_room, crate::proofs::Writing::five_writes))]
 fn put_counts(out: &mut [u8], at: usize, word: &[u8], x: u32, y: u32, z: u32) -> usize
     requires { (length word.now ≤ 5) × (at + 128 ≤ length out.old) }
     ensures { Writes 128 out.old at (count_row word.now x y z) out.new result }
@@ -27,6 +28,7 @@ fn put_step(out: &mut [u8], at: usize, number: u16, answer: u8) -> usize
 }
 
 // Each step of the list by itself, from a fresh run on.
+#[tactic(auto, using(rows::proofs::Putting::put_none, crate::proofs::Writing::then, crate::proofs::Stepping::run_more, crate::proofs::Stepping::rows_more), unfolding(crate::specs::Traces::run_after, crate::specs::Traces::step_rows))]
 pub fn put_steps(
     kinds: &[i32],
     a: &[i32],
@@ -70,6 +72,7 @@ fn shown(complete: bool, tasks: usize) -> usize
 }
 
 // A row, then the last complete snapshot, if there is one, and the live totals.
+#[tactic(auto, using(crate::proofs::Writing::then_room, crate::proofs::Writing::three_writes, crate::proofs::Writing::shown_few))]
 fn put_after(
     out: &mut [u8],
     at: usize,
@@ -95,6 +98,7 @@ fn put_after(
 }
 
 // The list, the last complete snapshot and the live totals after it.
+#[tactic(auto, unfolding(crate::specs::Traces::after_steps))]
 pub fn put_list(out: &mut [u8], at: usize, tasks: usize, l: Listed) -> usize
     requires { (l.done ≤ 5461) × (l.refused ≤ 5461) × (tasks ≤ 16) × (at + 4224 ≤ length out.old) }
     ensures { Writes 4224 out.old at (after_steps tasks l) out.new result }
@@ -115,6 +119,7 @@ pub fn put_list(out: &mut [u8], at: usize, tasks: usize, l: Listed) -> usize
 }
 
 // The drain, the last complete snapshot and the totals after it.
+#[tactic(auto, unfolding(crate::specs::Traces::after_drain))]
 pub fn put_drain(out: &mut [u8], at: usize, tasks: usize, d: Drained) -> usize
     requires { (tasks ≤ 16) × (at + 4224 ≤ length out.old) }
     ensures { Writes 4224 out.old at (after_drain tasks d) out.new result }

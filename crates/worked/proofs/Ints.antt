@@ -1,13 +1,11 @@
 -- Signed numbers that are printed: their size, and that they fit.
 use mathlib.Core.Path.{◌≡◌}
 use mathlib.Core.Bool.{false, true≢false}
-use Prim.Native.Nat.{ℕ, suc, ◌+◌, ◌<◌}
 use native.Mathlib.Omega.{arith}
 use borrow.Author.Tests.{leb-false}
 use lib.Dec.{T}
 use lib.IntN.{ℤ, pos, negsuc, ◌-ℤ◌}
 use lib.Signed.{le_z, lt_z, non_neg}
-use mathlib.Core.Path.{sym}
 use mir.Syntax.{w64}
 use mir.Val.{SFits}
 

@@ -1,5 +1,5 @@
 -- A barrier goes through the plain step, and the drain that goes on after it ends as before.
-use Rattle.std.proofs.Common.{arith, ◌≡◌, ◌+◌, ◌-◌, sym, ap, ◌∙◌, subst}
+use Rattle.std.proofs.Common.{arith, ◌+◌, ◌-◌, sym, ap, ◌∙◌, subst}
 use Rattle.run.specs.Fit.{Fits}
 use Rattle.step.specs.declared.Stepped.{Stepped}
 use Rattle.step.specs.Step.{stepped}

@@ -1,5 +1,5 @@
 -- A turn of the loop: the search found the lowest possible step; what it brings is counted and sent on.
-use Rattle.std.proofs.Common.{rules, arith, ◌≡◌, sym, ap, ◌∙◌, w32, FitsSigned}
+use Rattle.std.proofs.Common.{rules, arith, sym, ap, ◌∙◌, w32, FitsSigned}
 use Rattle.std.proofs.Math.ListN.{set}
 use mathlib.Core.Path.{refl}
 use mir.Facts.{to_z-of_z}

@@ -1,5 +1,5 @@
 -- One task's worst count more: for a source its part's length, for another what flows in from the round before.
-use Rattle.std.proofs.Common.{rules, ◌≡◌, ◌∙◌, ap, cond, w32, FitsSigned}
+use Rattle.std.proofs.Common.{rules, ◌∙◌, ap, cond, w32, FitsSigned}
 use mathlib.Core.Path.{ap₂}
 use mir.Facts.{to_z-of_z}
 use Rattle.std.specs.Prelude.{nat_abs}
