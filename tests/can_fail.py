@@ -39,7 +39,7 @@ EDITS = [
 ]
 SPECS, CODE, FOLD = "crates/tally/specs/Totals.antt", "crates/tally/src/lib.rt", "crates/tally/proofs/Fold.antt"
 FALSE_FUNCTION = "pub fn seven(x: u32) -> u32\n    ensures { result ≡ 7 }\n{\n    x\n}\n"
-FALSE_LAW = "pub false_one : (n : ℕ) → n ≡ suc n\nfalse_one n = "
+FALSE_LAW = "pub false_one : (n : ℕ) → n ≡ n + 1\nfalse_one n = "
 NO_NAME = ("go false v e h = refl", "go false v e h = no_such")
 # what is wrong with a wrong program, the file that it changes, the change, and what the runner says
 PATCHES = [

@@ -45,7 +45,11 @@ def path_of(file, function):
 def function_at(file, line):
     """The function, with its type, that encloses a line of a source file that `rt fmt` has laid out."""
     function = kind = ""
-    for text in open(file, encoding="utf8").read().split("\n")[:line]:
+    texts = open(file, encoding="utf8").read().split("\n")
+    # a function begins with its attributes
+    while texts[line - 1].lstrip().startswith("#["):
+        line += 1
+    for text in texts[:line]:
         if found := re.match(r"impl\b(?:<[^{]*?>)? (?:[^{]*? for )?(\w+)", text):
             kind = f"{found[1]}::"
         elif found := re.match(r"( *)(?:pub(?:\(\w+\))? )?(?:const )?fn (\w+)", text):

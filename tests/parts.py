@@ -49,7 +49,7 @@ def jobs(long, log):
     totals, trace = (PROGRAM.format(program) for program in PROGRAMS)
     catch = f"{SECOND_PROGRAM} catch --totals {totals} --trace {trace} --from 0 --count 300"
     # ./run would prove anew what changed after it was built
-    changed = rf"find crates crates.txt -newer {totals} \( -name '*.rt' -o -name '*.antt' -o -name crates.txt \) -print"
+    changed = rf"find crates crates.txt -not -path '*/out/*' -newer {totals} \( -name '*.rt' -o -name '*.antt' -o -name crates.txt \) -print"
     started = f"{changed} | grep . && exit 1; ./run > /dev/null && ./run --trace > /dev/null && echo '1 passed, 0 failed'"
     alone = f"command -v cargo > /dev/null || {{ echo 'test: cargo, which builds the second program, is not installed'; exit 1; }}; \
 cd second && cargo build --release --quiet && cd .. && {SECOND_PROGRAM} check"
