@@ -21,8 +21,7 @@ REFUSED = "refused, as it must be"
 # What the prover says where a fact fails. Any other error (a name that is gone, a text that no longer parses) shows nothing.
 FACT = re.compile(
     r"it is not proved that|give a proof of that as the last argument|the two (types|values|sides) |expected type "
-    r"|the goal (does not follow|fails)|no proof (of|was found)|found no proof|no (equation|entry) of the list"
-    r"|does not follow|did not (prove|show)|stopped at (its own limit|a bound of its own)"
+    r"|the goal does not follow|no proof (of|was found)|no equation of the list has an instance"
 )
 # The proof file no longer fits the code: that is no fact.
 MISFIT = re.compile(r"expected type `[^`]*\bGoals\b|is not in scope|has no field|has no `|not admitted")
