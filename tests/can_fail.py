@@ -17,7 +17,7 @@ import parts
 AT = "# refused at: proofs/Totals/with returns\n"
 HOLE = "file: proofs/Fold.antt\nold:     go false v e h = refl\nnew:     go false v e h = ?\n"
 COUNTED = "file: src/lib.rt\nold:             count: self.count + 1,\nnew:             count: self.count + 2,\n"
-FIRST = "file: src/lib.rt\nold:     if count == 0 {\nnew:     if count == 1 {\n"
+FIRST = "file: src/lib.rt\nold:     if count == 0 ||\nnew:     if count == 1 ||\n"
 # what an edit is like, its text, and whether it is refused, and for its reason
 EDITS = [
     ("makes a fact fail where it says", AT + COUNTED, True, True),

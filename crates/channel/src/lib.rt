@@ -16,6 +16,7 @@ pub const FULL: u8 = 14;
 
 pub const DOES_NOT_FIT: u8 = 16;
 
+// Not an Option: document 01 names this form, "enum whose record case carries a record struct".
 #[derive(Clone, Copy)]
 pub enum Cargo {
     Barrier,
@@ -27,19 +28,21 @@ pub struct Item {
     pub cargo: Cargo,
 }
 
-// The first `count` places are held, the head at place 0.
+// The first `count` places are held, the head at place 0. No heap; and a channel from elsewhere may claim more than it holds (16).
 #[derive(Clone, Copy)]
 pub struct Channel {
     pub items: [Item; 8],
     pub count: usize,
 }
 
+// The answer stands beside the channel: document 01, "each with the channel as it came".
 #[derive(Clone, Copy)]
 pub struct Added {
     pub channel: Channel,
     pub answer: u8,
 }
 
+// The same, "and, for taking, a barrier".
 #[derive(Clone, Copy)]
 pub struct Taken {
     pub channel: Channel,

@@ -7,12 +7,14 @@ use native.Mathlib.Omega.{arith}
 use borrow.Author.Tests.{eq-eqb, ne_eqb, eqb-true, eqb-false}
 use lib.Dec.{eqb}
 use lib.IntN.{ℤ}
+use Rattle.std.specs.Prelude.{Some}
 use Rattle.job.specs.declared.Job.{Job}
 use Rattle.job.proofs.Bools.{neither}
 use Rattle.run.specs.declared.Run.{Run}
 use Rattle.step.specs.Step.{stepped}
 use Rattle.drain.specs.Drains.{some_left, possible, first_from, lowest, ended, drained_of}
-use Rattle.drain.specs.Turns.{last_answer}
+use Rattle.drain.specs.Ready.{found}
+use Rattle.drain.specs.Turns.{is_over, last_answer}
 
 or_left : (b : Bool) → b || false ≡ true → b ≡ true
 or_left true e = refl
@@ -31,6 +33,9 @@ module _ (n i : ℕ) (test : ℕ → Bool) where
 pub first_end : (n : ℕ) (test : ℕ → Bool) → first_from (n - n) n test ≡ n
 unfolding first_from
 first_end n test = let s : n - n ≡ 0 = omega arith in ap (λ (k : ℕ). first_from k n test) s
+
+pub found_low : (k n : ℕ) → k ≡ n → n < 64 → Some n ≡ found k
+found_low k n e l = sym (ap found e ∙ simp (ne_eqb n 64 (λ q. omega arith)))
 
 -- the search ends within its numbers, at one that passes or after them
 pub first_most : (k i : ℕ) (test : ℕ → Bool) → first_from k i test ≤ k + i
@@ -78,27 +83,28 @@ module _ (job : Job) (c v : List ℤ) where
     unfolding drained_of
     one_step ne = ap (λ (k : ℕ). drained_of job c v k steps run) turn ∙ simp (left, ne_eqb (lowest job c v run) 64 ne)
 
-  module _ (limit steps : ℕ) (run : Run) (n : ℕ) (within : steps ≤ limit) (low : n ≡ lowest job c v run) where
-    -- none is possible, or the limit is spent
-    pub ends : eqb n 64 || eqb steps limit ≡ true
+  module _ (limit steps : ℕ) (run : Run) (within : steps ≤ limit) where
+    -- it is over
+    pub ends : is_over job c v limit steps run ≡ true
         → drained_of job c v (limit - steps) steps run ≡ ended (last_answer (some_left job run) (eqb steps limit)) run steps
     ends h = go (some_left job run) refl (eqb steps limit) refl h
       where
-        go : (left : Bool) → some_left job run ≡ left → (out : Bool) → eqb steps limit ≡ out → eqb n 64 || out ≡ true
+        go : (left : Bool) → some_left job run ≡ left → (out : Bool) → eqb steps limit ≡ out → eqb (lowest job c v run) 64 || out ≡ true
             → drained_of job c v (limit - steps) steps run ≡ ended (last_answer left out) run steps
         go false e out q h = nothing_left (limit - steps) steps run e
         go true e true q h = ap (λ m. drained_of job c v (m - steps) steps run) (sym (eqb-true steps limit q)) ∙ spent steps run e
         go true e false q h =
             let ne : steps ≡ limit → ⊥ = eqb-false steps limit q in
-            stuck limit steps run (omega arith) e (sym low ∙ eqb-true n 64 (or_left (eqb n 64) h))
+            stuck limit steps run (omega arith) e (eqb-true (lowest job c v run) 64 (or_left (eqb (lowest job c v run) 64) h))
 
     -- or the drain goes on
-    pub goes_on : eqb n 64 || eqb steps limit ≡ false → (n < 64) × (possible job c v run n ≡ true) × (steps < limit)
+    pub goes_on : (n : ℕ) → n ≡ lowest job c v run → is_over job c v limit steps run ≡ false
+        → (n < 64) × (possible job c v run n ≡ true) × (steps < limit)
     unfolding lowest
-    goes_on h =
-        let x = neither (eqb n 64) (eqb steps limit) h in
-        let ne : n ≡ 64 → ⊥ = eqb-false n 64 x.0 in
+    goes_on n low h =
+        let x = neither (eqb (lowest job c v run) 64) (eqb steps limit) h in
+        let ne : lowest job c v run ≡ 64 → ⊥ = eqb-false (lowest job c v run) 64 x.0 in
         let me : steps ≡ limit → ⊥ = eqb-false steps limit x.1 in
         let most = first_most 64 0 (possible job c v run) in
-        let less : first_from 64 0 (possible job c v run) < 64 + 0 = omega (arith, low, most) in
-        (omega (arith, low, most), ap (possible job c v run) low ∙ first_passes 64 0 (possible job c v run) less, omega arith)
+        let less : first_from 64 0 (possible job c v run) < 64 + 0 = omega arith in
+        (omega arith, ap (possible job c v run) low ∙ first_passes 64 0 (possible job c v run) less, omega arith)

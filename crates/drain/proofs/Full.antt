@@ -25,9 +25,9 @@ unset zero i = refl
 unset (suc n) zero = refl
 unset (suc n) (suc i) = unset n i
 
-module _ (job : Job) (chans : List Channel) (counts : List ℕ) where
+module _ (job : Job) (chans : List Channel) where
   abbrev noted : ℕ → List Bool
-  noted = noted_to (replicate 16 false) job.from counts
+  noted = noted_to (replicate 16 false) job.from chans
 
   length_noted : (k : ℕ) → length (noted k) ≡ 16
   unfolding noted_to
@@ -36,16 +36,16 @@ module _ (job : Job) (chans : List Channel) (counts : List ℕ) where
 
   -- the list after channel k was looked at
   abbrev after : ℕ → List Bool
-  after k = set (noted k) (from_of job k) (get_or (noted k) (from_of job k) false || leb 8 (get_or counts k 0))
+  after k = set (noted k) (from_of job k) (get_or (noted k) (from_of job k) false || leb 8 (get_or chans k no_channel).count)
 
   abbrev full_of : ℕ → ℕ → Bool
   full_of u c = is_output job u c && is_full (get_or chans c no_channel)
 
-  pub full_at : (k : ℕ) → ((c : ℕ) → c < k → from_of job c < 16) → ((c : ℕ) → c < k → get_or counts c 0 ≡ (get_or chans c no_channel).count)
+  pub full_at : (k : ℕ) → ((c : ℕ) → c < k → from_of job c < 16)
       → (u : ℕ) → get_or (noted k) u false ≡ some (full_of u) k
   unfolding noted_to some
-  full_at zero small same u = unset 16 u
-  full_at (suc k) small same u = go (eqb (from_of job k) u) refl (full_at k (λ c l. small c (omega arith)) (λ c l. same c (omega arith)) u)
+  full_at zero small u = unset 16 u
+  full_at (suc k) small u = go (eqb (from_of job k) u) refl (full_at k (λ c l. small c (omega arith)) u)
     where
       go : (b : Bool) → eqb (from_of job k) u ≡ b → get_or (noted k) u false ≡ some (full_of u) k
           → get_or (after k) u false ≡ some (full_of u) k || b && is_full (get_or chans k no_channel)
@@ -53,8 +53,7 @@ module _ (job : Job) (chans : List Channel) (counts : List ℕ) where
           let e : from_of job k ≡ u = eqb-true (from_of job k) u q in
           ap (λ j. get_or (after k) j false) (sym e)
           ∙ get_or-set_same (noted k) (from_of job k) _ false (omega (arith, length_noted k, small k (omega arith)))
-          ∙ ap (λ b. b || leb 8 (get_or counts k 0)) (ap (λ j. get_or (noted k) j false) e ∙ ih)
-          ∙ ap (λ n. some (full_of u) k || leb 8 n) (same k (omega arith))
+          ∙ ap (λ b. b || leb 8 (get_or chans k no_channel).count) (ap (λ j. get_or (noted k) j false) e ∙ ih)
       go false q ih =
           let ne : from_of job k ≡ u → ⊥ = eqb-false (from_of job k) u q in
           get_or-set_other (noted k) (from_of job k) u _ false (λ e. ne (sym e)) ∙ ih ∙ or_false (some (full_of u) k)

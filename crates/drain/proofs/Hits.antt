@@ -9,7 +9,6 @@ use lib.Dec.{ltb, leb}
 use lib.IntN.{ℤ}
 use lib.ListN.{get_or}
 use borrow.Author.Tests.{leb-false}
-use Rattle.channel.specs.declared.Cargo.{Cargo}
 use Rattle.job.specs.declared.Job.{Job}
 use Rattle.job.specs.Jobs.{JobSized, kind_of, b_of, to_of}
 use Rattle.run.specs.declared.Run.{Run}
@@ -18,7 +17,6 @@ use Rattle.outputs.specs.Outputs.{some_full}
 use Rattle.drain.specs.Drains.{possible}
 use Rattle.flat.specs.Columns.{head_of, is_barrier}
 use Rattle.drain.specs.Ready.{delivers_by, source_of, acts_by}
-use Rattle.drain.specs.Sending.{brought_by}
 use Rattle.drain.proofs.Possible.{delivery_ready_lem, source_ready_lem}
 
 module _ (job : Job) (cs vs : List ℤ) (run : Run) (full : List Bool)
@@ -49,8 +47,3 @@ module _ (job : Job) (cs vs : List ℤ) (run : Run) (full : List Bool)
       let t = source_of n in
       ap (acts_by n (ltb t job.tasks) (kind_of job t) (b_of job t) (totals_at run.live t).count (ltb 0 (count_at run.waiting t)))
       (noted t) ∙ sym (source_ready_lem job run cs vs n low high)
-
-pub brought_same : (cs vs : List ℤ) (n : ℕ) (head head' : Cargo) (a a' : ℤ) (offset offset' : ℕ) → head ≡ head' → a ≡ a' → offset ≡
-    offset'
-    → brought_by cs vs n head a offset ≡ brought_by cs vs n head' a' offset'
-brought_same cs vs n head head' a a' offset offset' p q r = cc

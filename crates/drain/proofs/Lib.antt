@@ -5,17 +5,13 @@
 --   Full       the tasks noted as having a full output are those that have one
 --   Hits       the test of a step by its parts is `possible`
 --   Asking     small laws of the test and of what a step leaves behind
---   Sends      what a task sends, channel by channel
---   Steps      where the columns read as a run, the search and the step in them are the run's own
---   Onward     one turn of the drain in the columns
---   Found      what the search found is the lowest possible step of any run that the columns came as
+--   Steps      the search finds the lowest possible step
+--   Onward     one turn of the drain
 pub mod Draining
 pub mod Possible
 pub mod Brings
 pub mod Full
 pub mod Hits
 pub mod Asking
-pub mod Sends
 pub mod Steps
 pub mod Onward
-pub mod Found

@@ -1,8 +1,14 @@
 -- Whether a step of 0 to 63 is possible, told by its parts: numbers, flags and columns. The definition of the drain asks the whole step
 -- (`possible`); the code asks this. That the two agree is `can_is` of proofs/Steps.
-use Rattle.std.specs.Prelude.{Bool, true, false, cond, not, ◌&&◌, ◌||◌, List, ℕ, zero, suc, ◌%◌, eqb, ltb, leb, ℤ, pos, nat_abs, get_or, set}
+use Rattle.std.specs.Prelude.{Bool, true, false, cond, not, ◌&&◌, ◌||◌, List, ℕ, zero, suc, ◌%◌, eqb, ltb, leb, ℤ, nat_abs, get_or, set, replicate, Option, Some, None}
+use Rattle.channel.specs.declared.Channel.{Channel}
+use Rattle.job.specs.declared.Job.{Job}
+use Rattle.job.specs.Jobs.{kind_of, b_of}
+use Rattle.run.specs.declared.Run.{Run}
+use Rattle.run.specs.Runs.{no_channel}
+use Rattle.run.specs.Fit.{channel_at, totals_at, count_at}
 use Rattle.outputs.specs.Parts.{all_marked_by}
-use Rattle.flat.specs.Columns.{barrier_in}
+use Rattle.flat.specs.Columns.{head_of, is_barrier}
 
 -- 14 "applies to a record, also one that the task will drop, and to a barrier that completes the task's marks. 17 applies to a record
 -- only."
@@ -35,20 +41,28 @@ task_by to n = cond (ltb n 32) (get_or to n 0 % 16) (source_of n)
 abbrev pub channel_by : ℕ → ℕ
 channel_by n = cond (ltb n 32) n 0
 
--- the step is possible, by the columns and the tasks with a full output
-unfoldable pub possible_in :
-    List ℕ → List ℕ → List ℕ → List ℕ → List Bool → List ℕ → List ℕ → List ℤ → List Bool → List ℕ → ℕ → ℕ → ℕ → Bool
-possible_in codes heads counts received full to kinds b marked waiting channels tasks n =
-    let t = task_by to n in
+-- the step is possible, by the tasks with a full output
+unfoldable pub possible_in : Job → List Bool → Run → ℕ → Bool
+possible_in job full run n =
+    let t = task_by job.to n in
     cond (ltb n 32)
-    (delivers_by to marked channels n (get_or counts n 0) (barrier_in codes heads n) (get_or full t false) (get_or received t 0))
-    (acts_by n (ltb t tasks) (get_or kinds t 0) (get_or b t (pos 0)) (get_or received t 0) (ltb 0 (get_or waiting t 0)) (get_or full t false))
+    (delivers_by job.to run.marked job.channels n (channel_at run n).count (is_barrier (head_of (channel_at run n))) (get_or full t false)
+    (totals_at run.live t).count)
+    (acts_by n (ltb t job.tasks) (kind_of job t) (b_of job t) (totals_at run.live t).count (ltb 0 (count_at run.waiting t)) (get_or full t
+    false))
 
 -- the tasks with a full output, channel c looked at as well
 abbrev pub noted_by : List Bool → List ℕ → ℕ → ℕ → List Bool
 noted_by full from c count = let t = get_or from c 0 in set full t (get_or full t false || leb 8 count)
 
 -- one pass over the channels notes the tasks that have a full output
-unfoldable pub noted_to : List Bool → List ℕ → List ℕ → ℕ → List Bool
-noted_to full from counts zero = full
-noted_to full from counts (suc c) = noted_by (noted_to full from counts c) from c (get_or counts c 0)
+unfoldable pub noted_to : List Bool → List ℕ → List Channel → ℕ → List Bool
+noted_to full from chans zero = full
+noted_to full from chans (suc c) = noted_by (noted_to full from chans c) from c (get_or chans c no_channel).count
+
+abbrev pub full_tasks : Job → Run → List Bool
+full_tasks job run = noted_to (replicate 16 false) job.from run.channels job.channels
+
+-- the number that a search of 64 found, if it found one
+abbrev pub found : ℕ → Option ℕ
+found n = cond (eqb n 64) None (Some n)

@@ -14,9 +14,16 @@ mod search;
 mod sending;
 mod turns;
 
-use job::Job;
+use job::{Job, Records};
 use run::Run;
 
+pub const NOTHING_LEFT: u8 = 0;
+
+pub const SPENT: u8 = 18;
+
+pub const STUCK: u8 = 19;
+
+// The answer stands beside the run and the steps: document 01, "18 and 19 are no refusals, the steps done stand".
 #[derive(Clone, Copy)]
 pub struct Drained {
     pub run: Run,
@@ -30,38 +37,32 @@ fn last_answer(left: bool, spent: bool) -> u8
 {
     if left {
         if spent {
-            return 18;
+            return SPENT;
         }
-        return 19;
+        return STUCK;
     }
-    0
+    NOTHING_LEFT
 }
 
-// The lowest-numbered possible step, again and again, until none is possible or the limit is spent: steps that bring records are done in
-// columns, which are lent and never copied; a barrier, which is rare, goes through the plain step.
-#[tactic(auto, using(step::proofs::Keeps::stepped_fits, crate::proofs::Draining::goes_on, crate::proofs::Draining::ends, crate::proofs::Draining::one_step, crate::proofs::Brings::possible_left), unfolding(crate::specs::Drains::drained_of))]
-pub fn drain(job: Job, cylinders: &[i32], values: &[i32], run: Run, limit: u32) -> Drained
-    requires { JobFits job (length cylinders.now) × Fits job run × RecordsFit cylinders.now values.now }
-    ensures { result ≡ drained_of job cylinders.now values.now limit 0 run }
+// The lowest-numbered possible step, again and again, until none is possible or the limit is spent: steps that bring records are done on
+// the run laid flat, which is never copied; a barrier, which is rare, goes through the plain step.
+pub fn drain(job: Job, records: &Records, run: Run, limit: u32) -> Drained
+    requires { JobFits job (length records.now.cylinders.now) × Fits job run × RecordsFit records.now.cylinders.now records.now.values.now }
+    ensures { result ≡ drained_of job records.now.cylinders.now records.now.values.now limit 0 run }
 {
-    let mut r = run;
+    let mut now = run;
     let mut steps: u32 = 0;
     loop {
-        let went = turns::records(job, cylinders, values, r, limit, steps);
-        let n = went.n;
-        let done = went.steps;
-        let next = went.run;
-        if (n == 64) | (done == limit) {
-            let left = left::some_left(job, next);
-            let answer = last_answer(left, done == limit);
+        let went = turns::records(job, records, now, limit, steps);
+        let Some(n) = went.barrier else {
+            let left = left::some_left(&job, &went.run);
             return Drained {
-                run: next,
-                answer,
-                steps: done,
+                run: went.run,
+                answer: last_answer(left, went.steps == limit),
+                steps: went.steps,
             };
-        }
-        let s = step::step(job, cylinders, values, next, n);
-        r = s.run;
-        steps = done + 1;
+        };
+        now = step::step(job, records, went.run, n).run;
+        steps = went.steps + 1;
     }
 }

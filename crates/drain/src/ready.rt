@@ -1,165 +1,106 @@
-// Whether a step of 0 to 63 is possible, told by columns: the drain asks this of many numbers for each step that it does.
-ghost use Rattle.std.specs.Prelude.{◌≡◌, true, ℕ, ◌<◌, ◌≤◌, ltb, pos, get_or};
-ghost use Rattle.std.specs.Int.Signed.{le_z};
-ghost use Rattle.drain.specs.Ready.{head_moves, delivers_by, source_of, acts_by, task_by, possible_in, noted_by, noted_to};
+// Whether a step of 0 to 63 is possible, asked of a run laid flat: the drain asks this of many numbers for each step that it does.
+ghost use Rattle.std.specs.Prelude.{◌≡◌, true, ◌<◌, ltb};
+ghost use Rattle.job.specs.Jobs.{JobSized, kind_of, b_of};
+ghost use Rattle.run.specs.Fit.{channel_at, totals_at, count_at};
+ghost use Rattle.flat.specs.Columns.{head_of, is_barrier};
+ghost use Rattle.drain.specs.Ready.{head_moves, delivers_by, acts_by, task_by, possible_in, full_tasks};
 
-// A task's number as it stands in a column.
-fn task(end: u8) -> usize
-    ensures { result ≡ end }
-{
-    end as usize
-}
+use flat::Flat;
+use job::Job;
+use kinds::SOURCE;
 
-// Whether the head of the channel can be received: a record needs room on every output and in the received, a barrier only where it is the
-// last of the task's inputs to be marked.
-fn moves(
-    to: &[u8; 32],
-    marked: &[bool; 32],
-    channels: usize,
-    c: usize,
-    barrier: bool,
-    full: bool,
-    received: u32,
-) -> bool
-    requires { (channels ≤ 32) × (c < 32) }
-    ensures { result ≡ head_moves to.now marked.now channels c barrier full received }
+// Whether the head of channel `c` can be received by task `t`: a record needs room on every output and in the received, a barrier only
+// where it is the last of the task's inputs to be marked.
+fn moves(job: &Job, flat: &Flat, c: usize, t: usize, full: bool) -> bool
+    requires { JobSized job.now × (c < 32) × (t < 16) }
+    ensures { result ≡ head_moves job.now.to flat.now.marked job.now.channels c (is_barrier (head_of (channel_at flat.now c)))
+        full (totals_at flat.now.live t).count }
 {
-    if barrier {
+    if flat.is_barrier(c) {
         if full {
-            let mut marks = *marked;
+            let mut marks = *flat.marked();
             marks[c] = true;
-            return !outputs::parts::all_marked(to, &marks, channels, task(to[c]));
+            return !outputs::parts::all_marked(job, &marks, usize::from(job.to[c]));
         }
         return true;
     }
-    !full & (received < 1048576)
+    !full & (flat.received(t) < 1048576)
 }
 
-// Whether channel `c` can be delivered from.
+// Whether channel `c`, which leads to task `t`, can be delivered from.
 #[tactic(auto, unfolding(crate::specs::Ready::delivers_by))]
-fn delivers(
-    to: &[u8; 32],
-    marked: &[bool; 32],
-    channels: usize,
-    c: usize,
-    count: usize,
-    barrier: bool,
-    full: bool,
-    received: u32,
-) -> bool
-    requires { (channels ≤ 32) × (c < 32) }
-    ensures { result ≡ delivers_by to.now marked.now channels c count barrier full received }
+fn delivers(job: &Job, flat: &Flat, c: usize, t: usize, full: bool) -> bool
+    requires { JobSized job.now × (c < 32) × (t < 16) }
+    ensures { result ≡ delivers_by job.now.to flat.now.marked job.now.channels c (channel_at flat.now c).count
+        (is_barrier (head_of (channel_at flat.now c))) full (totals_at flat.now.live t).count }
 {
-    if channels <= c {
+    if job.channels <= c {
         return false;
     }
-    if count == 0 {
+    if flat.count(c) == 0 {
         return false;
     }
-    if marked[c] {
+    if flat.is_marked(c) {
         return false;
     }
-    moves(to, marked, channels, c, barrier, full, received)
+    moves(job, flat, c, t, full)
 }
 
-// Whether the source can read its next record (below 48) or send its waiting barrier.
-#[tactic(auto, using(step::proofs::Sources::not_negative), unfolding(crate::specs::Ready::acts_by))]
-fn acts(n: u16, there: bool, kind: u8, b: i32, received: u32, waits: bool, full: bool) -> bool
-    requires { there ≡ true → kind ≡ 0 → le_z (pos 0) b ≡ true }
-    ensures { result ≡ acts_by n there kind b received waits full }
+// Whether source `t` can read its next record (`n` below 48) or send its waiting barrier.
+#[tactic(auto, unfolding(crate::specs::Ready::acts_by))]
+fn acts(job: &Job, flat: &Flat, n: u16, t: usize, full: bool) -> bool
+    requires { t < 16 }
+    ensures { result ≡ acts_by n (ltb t job.now.tasks) (kind_of job.now t) (b_of job.now t) (totals_at flat.now.live t).count
+        (ltb 0 (count_at flat.now.waiting t)) full }
 {
-    if !there {
+    if job.tasks <= t {
         return false;
     }
-    if kind != 0 {
+    if job.kinds[t] != SOURCE {
         return false;
     }
     if full {
         return false;
     }
     if n < 48 {
-        return received < b as u32;
+        return flat.received(t) < job.b[t].unsigned_abs();
     }
-    waits
+    flat.waits(t)
 }
 
 // The task that a step of 0 to 63 speaks of.
-pub fn task_of(to: &[u8; 32], n: u16) -> usize
-    ensures { (result ≡ task_by to.now n) × (result < 16) }
+pub fn task_of(job: &Job, n: u16) -> usize
+    ensures { (result ≡ task_by job.now.to n) × (result < 16) }
 {
     if n < 32 {
-        let c = n as usize;
-        return task(to[c]) % 16;
+        return usize::from(job.to[usize::from(n)]) % 16;
     }
-    (n % 16) as usize
+    usize::from(n % 16)
 }
 
 // Whether step `n` is possible; `full` says which tasks have a full output.
 #[tactic(auto, unfolding(crate::specs::Ready::possible_in))]
-pub fn is_possible(
-    codes: &[u16; 256],
-    heads: &[usize; 32],
-    counts: &[usize; 32],
-    received: &[u32; 16],
-    full: &[bool; 16],
-    to: &[u8; 32],
-    kinds: &[u8; 16],
-    b: &[i32; 16],
-    marked: &[bool; 32],
-    waiting: &[u8; 16],
-    channels: usize,
-    tasks: usize,
-    n: u16,
-) -> bool
-    requires channels_bound { channels ≤ 32 }
-    requires pos_value { ltb (source_of n) tasks ≡ true → get_or kinds.now (source_of n) 0 ≡ 0 → le_z (pos 0) (get_or b.now (source_of n) (pos 0))
-        ≡ true }
-    ensures { result ≡ possible_in codes.now heads.now counts.now received.now full.now to.now kinds.now b.now marked.now waiting.now channels tasks n }
+pub fn is_possible(job: &Job, flat: &Flat, full: &[bool; 16], n: u16) -> bool
+    requires { JobSized job.now }
+    ensures { result ≡ possible_in job.now full.now flat.now n }
 {
-    let t = task_of(to, n);
+    let t = task_of(job, n);
     if n < 32 {
-        let c = n as usize;
-        let barrier = flat::is_barrier(codes, heads, c);
-        return delivers(
-            to,
-            marked,
-            channels,
-            c,
-            counts[c],
-            barrier,
-            full[t],
-            received[t],
-        );
+        return delivers(job, flat, usize::from(n), t, full[t]);
     }
-    acts(
-        n,
-        t < tasks,
-        kinds[t],
-        b[t],
-        received[t],
-        0 < waiting[t],
-        full[t],
-    )
+    acts(job, flat, n, t, full[t])
 }
 
-// The tasks with a full output, channel `c` looked at as well.
-fn note_at(full: &mut [bool; 16], from: &[u8; 32], counts: &[usize; 32], c: usize)
-    requires { (c < 32) × (get_or from.now c 0 < 16) }
-    ensures { full.new ≡ noted_by full.old from.now c (get_or counts.now c 0) }
-{
-    let t = task(from[c]);
-    full[t] = full[t] | (8 <= counts[c]);
-}
-
-// The tasks with a full output: those in `full` already, and those that have one among the channels.
+// The tasks with a full output.
 #[tactic(auto, using(crate::proofs::Asking::noted_more), unfolding(crate::specs::Ready::noted_to))]
-pub fn note(full: &mut [bool; 16], from: &[u8; 32], counts: &[usize; 32], channels: usize)
-    requires { (channels ≤ 32) × ((c : ℕ) → c < channels → get_or from.now c 0 < 16) }
-    ensures { full.new ≡ noted_to full.old from.now counts.now channels }
+pub fn full_tasks(job: &Job, flat: &Flat) -> [bool; 16]
+    requires { JobSized job.now }
+    ensures { result ≡ full_tasks job.now flat.now }
 {
-    let mut c: usize = 0;
-    while c < channels {
-        note_at(full, from, counts, c);
-        c += 1;
+    let mut full = [false; 16];
+    for c in 0..job.channels {
+        let t = usize::from(job.from[c]);
+        full[t] |= 8 <= flat.count(c);
     }
+    full
 }

@@ -1,218 +1,112 @@
-// A step that brings a record, done in columns: what it brings, what it takes away, and what goes on each output.
-ghost use Rattle.std.specs.Prelude.{◌≡◌, true, false, List, ℕ, ◌<◌, ◌≤◌, ◌+◌, eqb, ltb, ℤ, pos, nat_abs, get_or, set, length};
-ghost use Rattle.std.specs.Int.Signed.{le_z};
-ghost use mir.Val.{bool_byte};
-ghost use Rattle.kinds.specs.Kinds.{Sendable};
+// A step that brings a record, done on a run laid flat: what it brings, what it takes away, and what goes on each output.
+ghost use Rattle.std.specs.Prelude.{◌≡◌, true, false, ℕ, ◌<◌, ◌≤◌, ◌+◌, ltb, ℤ, pos, nat_abs, get_or, set, length};
+ghost use Rattle.tally.specs.Totals.{Room};
+ghost use Rattle.job.specs.Graph.{sent_by};
+ghost use Rattle.job.specs.Jobs.{place_of, a_of};
 ghost use Rattle.job.specs.Columns.{RecordsFit};
-ghost use Rattle.outputs.specs.Parts.{carried_by};
-ghost use Rattle.flat.specs.Columns.{head_in, channel_in, channels_in, Laid, ReadAs};
+ghost use Rattle.job.specs.Fits.{Sends};
+ghost use Rattle.run.specs.Runs.{with_channels};
+ghost use Rattle.run.specs.Fit.{channel_at, totals_at};
+ghost use Rattle.outputs.specs.Outputs.{put_all, put_sent};
+ghost use Rattle.step.specs.Algorithm.{taken_in};
+ghost use Rattle.flat.specs.Columns.{head_of};
 ghost use Rattle.drain.specs.Ready.{channel_by};
-ghost use Rattle.drain.specs.Sending.{outputs_by, brought_by, left_on, sent_at, sent_to};
+ghost use Rattle.drain.specs.Sending.{brought_by, left_on};
 
 use channel::Cargo;
-use job::sends::names;
-use kinds::Sending;
+use flat::Flat;
+use job::sends::{names, place_of, sent_by};
+use job::{Job, Records};
 use tally::Record;
-
-// How many of the channels are outputs of the task.
-#[tactic(auto, using(job::proofs::Ints::byte_le), unfolding(crate::specs::Sending::outputs_by))]
-pub fn outputs_of(from: &[u8; 32], channels: usize, t: usize) -> u32
-    requires { channels ≤ 32 }
-    ensures { result ≡ outputs_by from.now t channels }
-{
-    let mut outputs: u32 = 0;
-    let mut c: usize = 0;
-    while c < channels {
-        outputs += names(from[c], t) as u32;
-        c += 1;
-    }
-    outputs
-}
 
 // The number of outputs of every task.
 #[tactic(auto, using(flat::proofs::Tables::one_more))]
-pub fn all_outputs(outs: &mut [u32; 16], from: &[u8; 32], channels: usize)
-    requires { channels ≤ 32 }
-    ensures { length outs.old ≡ 16 → (t : ℕ) → t < 16 → get_or outs.new t 0 ≡ outputs_by from.now
-        t channels }
+pub fn all_outputs(job: &Job) -> [u32; 16]
+    requires { job.now.channels ≤ 32 }
+    ensures { (t : ℕ) → t < 16 → get_or result t 0 ≡ place_of job.now t job.now.channels }
 {
-    let mut t: usize = 0;
-    while t < 16 {
-        let n = outputs_of(from, channels, t);
-        outs[t] = n;
-        t += 1;
+    let mut outs = [0; 16];
+    for t in 0..16 {
+        outs[t] = place_of(job, t, job.channels);
     }
-}
-
-#[tactic(auto, using(step::proofs::Sources::not_negative))]
-fn natural(x: i32) -> usize
-    requires { le_z (pos 0) x ≡ true }
-    ensures { result ≡ nat_abs x }
-{
-    x as usize
+    outs
 }
 
 // What step `n` brings to task `t`: the head of its channel, the source's next record, or a barrier.
 #[tactic(auto, unfolding(crate::specs::Sending::brought_by))]
-pub fn bring(
-    cylinders: &[i32],
-    values: &[i32],
-    a: &[i32; 16],
-    codes: &[u16; 256],
-    held: &[i32; 256],
-    heads: &[usize; 32],
-    n: u16,
-    t: usize,
-    offset: u32,
-) -> Cargo
-    requires t_bound { (t < 16) × RecordsFit cylinders.now values.now }
-    requires pos_value { ltb n 32 ≡ false → ltb n 48 ≡ true → (le_z (pos 0) (get_or a.now t (pos 0)) ≡ true) × (nat_abs (get_or a.now t (pos 0))
-        + offset < length cylinders.now) }
-    ensures { result ≡ brought_by cylinders.now values.now n (head_in codes.now held.now
-        heads.now (channel_by n)) (get_or a.now t (pos 0)) offset }
+pub fn bring(job: &Job, records: &Records, flat: &Flat, n: u16, t: usize) -> Cargo
+    requires records { (t < 16) × RecordsFit records.now.cylinders.now records.now.values.now }
+    requires inside { ltb n 32 ≡ false → ltb n 48 ≡ true
+        → nat_abs (a_of job.now t) + (totals_at flat.now.live t).count < length records.now.cylinders.now }
+    ensures { result ≡ brought_by records.now.cylinders.now records.now.values.now n (head_of (channel_at flat.now (channel_by n)))
+        (a_of job.now t) (totals_at flat.now.live t).count }
 {
     if n < 32 {
-        return flat::head(codes, held, heads, n as usize);
+        return flat.head(usize::from(n));
     }
     if n < 48 {
-        return Cargo::Record(job::sends::record_at(
-            cylinders,
-            values,
-            natural(a[t]) + offset as usize,
+        return Cargo::Record(records.at(
+            job.a[t].unsigned_abs() as usize + flat.received(t) as usize,
         ));
     }
     Cargo::Barrier
 }
 
 // What task `t` puts on its output `c` at `place` of `outputs` for a record that it received.
-#[tactic(auto, using(flat::proofs::Rings::unmoved), unfolding(outputs::specs::Parts::carried_by))]
-fn carry(
-    codes: &mut [u16; 256],
-    held: &mut [i32; 256],
-    heads: &[usize; 32],
-    counts: &mut [usize; 32],
-    kinds: &[u8; 16],
-    a: &[i32; 16],
-    b: &[i32; 16],
-    c: usize,
-    t: usize,
-    place: u32,
-    outputs: u32,
-    got: Record,
-)
-    requires { (c < 32) × (t < 16) × Sendable (get_or kinds.now t 0) (get_or a.now t (pos 0)) got }
-    ensures { Laid codes.old held.old heads.now counts.old → ReadAs (set
-        (channels_in codes.old held.old heads.now counts.old) c (carried_by (get_or kinds.now t 0) (get_or a.now t (pos 0)) (get_or b.now t (pos 0)) place outputs got (channel_in codes.old held.old heads.now counts.old c))) codes.new held.new heads.now counts.new }
+fn carry(job: &Job, flat: &mut Flat, c: usize, t: usize, place: u32, outputs: u32, got: Record)
+    requires { (c < 32) × (t < 16) × Sends job.now × (1 ≤ got.cylinder) }
+    ensures { flat.new ≡ with_channels (set flat.old.channels c
+        (put_sent (channel_at flat.old c) (sent_by job.now t place outputs got))) flat.old }
 {
-    let s = kinds::sent(kinds[t], a[t], b[t], place, outputs, got);
-    match s {
-        Sending::Nothing => {}
-        Sending::One(r) => {
-            flat::put(codes, held, heads, counts, c, r);
+    match sent_by(job, t, place, outputs, got) {
+        None => {}
+        Some(r) => flat.put(c, r),
+    }
+}
+
+// What task `t` sends for a record that it received, on all its `outputs`.
+#[tactic(auto, unfolding(outputs::specs::Outputs::each_place, job::specs::Jobs::place_of, outputs::specs::Outputs::put_all))]
+fn send(job: &Job, flat: &mut Flat, t: usize, outputs: u32, got: Record)
+    requires { (t < 16) × Sends job.now × (1 ≤ got.cylinder) × (outputs ≡ place_of job.now t job.now.channels) }
+    ensures { flat.new ≡ with_channels (put_all job.now t (Cargo.Record got) flat.old.channels) flat.old }
+{
+    let mut place = 0;
+    for c in 0..job.channels {
+        if names(job.from[c], t) {
+            carry(job, flat, c, t, place, outputs, got);
+            place += 1;
         }
     }
 }
 
-// The same on channel `j` if it is an output of the task; the place of the next output.
-#[tactic(auto, using(crate::proofs::Sends::channel_at_lem, crate::proofs::Sends::sent_here, crate::proofs::Sends::sent_not))]
-fn send_at(
-    codes: &mut [u16; 256],
-    held: &mut [i32; 256],
-    heads: &[usize; 32],
-    counts: &mut [usize; 32],
-    from: &[u8; 32],
-    kinds: &[u8; 16],
-    a: &[i32; 16],
-    b: &[i32; 16],
-    j: usize,
-    t: usize,
-    place: u32,
-    outputs: u32,
-    got: Record,
-) -> u32
-    requires { (j < 32) × (t < 16) × (place ≤ j) × Sendable (get_or kinds.now t 0) (get_or a.now t (pos 0)) got }
-    ensures next { result ≡ place + bool_byte (eqb (get_or from.now j 0) t) }
-    ensures sends { Laid codes.old held.old heads.now counts.old → ReadAs (sent_at
-        (get_or kinds.now t 0) (get_or a.now t (pos 0)) (get_or b.now t (pos 0)) from.now t place
-        outputs got (channels_in codes.old held.old heads.now counts.old) j) codes.new held.new heads.now counts.new }
+// Task `t` takes a record in: it updates the totals, then is sent on.
+#[tactic(auto, unfolding(step::specs::Algorithm::taken_in))]
+fn take_in(job: &Job, flat: &mut Flat, t: usize, outputs: u32, got: Record)
+    requires sends { (t < 16) × Sends job.now × (1 ≤ got.cylinder) × (outputs ≡ place_of job.now t job.now.channels) }
+    requires room { Room (totals_at flat.old.live t) }
+    ensures { flat.new ≡ taken_in job.now flat.old t got }
 {
-    if names(from[j], t) {
-        carry(
-            codes, held, heads, counts, kinds, a, b, j, t, place, outputs, got,
-        );
-        return place + 1;
-    }
-    place
-}
-
-// What the task sends for a record that it received, on all its outputs.
-#[tactic(auto, using(crate::proofs::Sends::byte_most, crate::proofs::Sends::sent_more, crate::proofs::Sends::outputs_more), unfolding(crate::specs::Sending::outputs_by, crate::specs::Sending::sent_to))]
-fn send(
-    codes: &mut [u16; 256],
-    held: &mut [i32; 256],
-    heads: &[usize; 32],
-    counts: &mut [usize; 32],
-    from: &[u8; 32],
-    kinds: &[u8; 16],
-    a: &[i32; 16],
-    b: &[i32; 16],
-    channels: usize,
-    t: usize,
-    outputs: u32,
-    got: Record,
-)
-    requires { (channels ≤ 32) × (t < 16) × Sendable (get_or kinds.now t 0) (get_or a.now t (pos 0)) got }
-    ensures { Laid codes.old held.old heads.now counts.old → ReadAs (sent_to (get_or
-        kinds.now t 0) (get_or a.now t (pos 0)) (get_or b.now t (pos 0)) from.now t outputs got
-        (channels_in codes.old held.old heads.now counts.old) channels) codes.new
-        held.new heads.now counts.new }
-{
-    let mut place: u32 = 0;
-    let mut j: usize = 0;
-    while j < channels {
-        place = send_at(
-            codes, held, heads, counts, from, kinds, a, b, j, t, place, outputs, got,
-        );
-        j += 1;
-    }
+    flat.receive(t, got.value);
+    send(job, flat, t, outputs, got);
 }
 
 // A delivery takes the head of its channel, a read leaves the channels as they are.
-#[tactic(auto, using(crate::proofs::Asking::channel_small, crate::proofs::Asking::left_low, crate::proofs::Asking::left_high, flat::proofs::Rings::unmoved))]
-fn take_for(codes: &mut [u16; 256], heads: &mut [usize; 32], counts: &mut [usize; 32], n: u16)
-    ensures { (held : List ℤ) → Laid codes.old held heads.old counts.old → ReadAs (set
-        (channels_in codes.old held heads.old counts.old) (channel_by n) (left_on n (channel_in codes.old held heads.old counts.old (channel_by n)))) codes.new held heads.new
-        counts.new }
+#[tactic(auto, using(crate::proofs::Asking::left_high, flat::proofs::Flats::same_run))]
+fn take_for(flat: &mut Flat, n: u16)
+    ensures { flat.new ≡ with_channels (set flat.old.channels (channel_by n) (left_on n (channel_at flat.old (channel_by n)))) flat.old }
 {
     if n < 32 {
-        flat::take(codes, heads, counts, n as usize);
+        flat.take(usize::from(n));
     }
 }
 
-// What step `n` takes is taken, and task `t` sends the record that it brought, by its kind.
-pub fn forward(
-    codes: &mut [u16; 256],
-    held: &mut [i32; 256],
-    heads: &mut [usize; 32],
-    counts: &mut [usize; 32],
-    from: &[u8; 32],
-    kinds: &[u8; 16],
-    a: &[i32; 16],
-    b: &[i32; 16],
-    channels: usize,
-    n: u16,
-    t: usize,
-    outputs: u32,
-    got: Record,
-)
-    requires { (channels ≤ 32) × (t < 16) × Sendable (get_or kinds.now t 0) (get_or a.now t (pos 0)) got }
-    ensures { Laid codes.old held.old heads.old counts.old → ReadAs (sent_to (get_or
-        kinds.now t 0) (get_or a.now t (pos 0)) (get_or b.now t (pos 0)) from.now t outputs got
-        (set (channels_in codes.old held.old heads.old counts.old) (channel_by n) (left_on n
-        (channel_in codes.old held.old heads.old counts.old (channel_by n)))) channels) codes.new held.new heads.new counts.new }
+// What step `n` takes is taken, and task `t` takes in the record that it brought.
+pub fn forward(job: &Job, flat: &mut Flat, n: u16, t: usize, outputs: u32, got: Record)
+    requires sends { (t < 16) × Sends job.now × (1 ≤ got.cylinder) × (outputs ≡ place_of job.now t job.now.channels) }
+    requires room { Room (totals_at flat.old.live t) }
+    ensures { flat.new ≡ taken_in job.now (with_channels (set flat.old.channels (channel_by n)
+        (left_on n (channel_at flat.old (channel_by n)))) flat.old) t got }
 {
-    take_for(codes, heads, counts, n);
-    send(
-        codes, held, heads, counts, from, kinds, a, b, channels, t, outputs, got,
-    );
+    take_for(flat, n);
+    take_in(job, flat, t, outputs, got);
 }

@@ -123,6 +123,24 @@ module _ (codes : List ℕ) (held : List ℤ) (c h : ℕ) where
       (record { cargo = Recorded r }) m (record_at_lem codes held (spot c h n) c h n r inside within small refl)
       (λ k l ne. kept_both codes held (spot c h n) (r.cylinder + 1) r.value c h k (distinct c h k n l m ne))
 
+-- ---- a channel from which nothing is taken, and one that takes nothing
+pub too_many : (ch : Channel) → 8 < ch.count → (without_head ch).channel ≡ ch
+unfolding without_head
+too_many ch h = simp (lt-ltb 8 ch.count h)
+
+pub empty : (ch : Channel) → ch.count ≡ 0 → (without_head ch).channel ≡ ch
+unfolding without_head
+empty ch e = simp (le-ltb 8 ch.count (omega arith), eq-eqb ch.count 0 e)
+
+pub full : (ch : Channel) → 8 ≤ ch.count → (item : Item) → (with_item ch item).channel ≡ ch
+unfolding with_item
+full ch h item = go (ltb 8 ch.count) refl (eqb ch.count 8) refl
+  where
+    go : (b : Bool) → ltb 8 ch.count ≡ b → (d : Bool) → eqb ch.count 8 ≡ d → (with_item ch item).channel ≡ ch
+    go true p d q = simp p
+    go false p true q = simp (p, q)
+    go false p false q = absurd (omega (arith, ltb-false 8 ch.count p, eqb-false ch.count 8 q))
+
 abbrev pub chan : List Item → ℕ → Channel
 chan items count = record { items = items; count = count }
 
@@ -133,34 +151,6 @@ module _ (codes : List ℕ) (held : List ℤ) (heads counts : List ℕ) (c : ℕ
 
   abbrev n : ℕ
   n = get_or counts c 0
-
-  -- ---- nothing is stored
-  pub unmoved : (x : Channel) → x ≡ channel_in codes held heads counts c → ReadAs (set (channels_in codes held heads counts) c x) codes
-      held heads counts
-  unfolding channels_in
-  unmoved x e = record {
-    laid = laid;
-    reads =
-        stored no_channel (channel_in codes held heads counts) (channel_in codes held heads counts) 32 c x small (sym e) (λ k l ne. refl);
-  }
-
-  pub too_many : 8 < n → (without_head (channel_in codes held heads counts c)).channel ≡ channel_in codes held heads counts c
-  unfolding channel_in without_head
-  too_many h = simp (lt-ltb 8 n h)
-
-  pub empty : n ≤ 8 → n ≡ 0 → (without_head (channel_in codes held heads counts c)).channel ≡ channel_in codes held heads counts c
-  unfolding channel_in without_head
-  empty h e = simp (le-ltb 8 n h, eq-eqb n 0 e)
-
-  pub full : 8 ≤ n → (item : Item) → (with_item (channel_in codes held heads counts c) item).channel ≡ channel_in codes held heads counts c
-  unfolding channel_in with_item
-  full h item = go (ltb 8 n) refl (eqb n 8) refl
-    where
-      go : (b : Bool) → ltb 8 n ≡ b → (d : Bool) → eqb n 8 ≡ d
-          → (with_item (channel_in codes held heads counts c) item).channel ≡ channel_in codes held heads counts c
-      go true p d q = simp p
-      go false p true q = simp (p, q)
-      go false p false q = absurd (omega (arith, ltb-false 8 n p, eqb-false n 8 q))
 
   -- ---- the head of channel c is taken
   module _ (some : 1 ≤ n) (fits : n ≤ 8) where

@@ -55,7 +55,7 @@ abbrev pub is_barrier : Cargo → Bool
 is_barrier Barrier = true
 is_barrier (Recorded r) = false
 
--- the columns have their lengths; a lent array tells its own to no contract, so each operation hands this on
+-- the columns have their lengths
 pub record Laid (codes : List ℕ) (held : List ℤ) (heads counts : List ℕ) : Type 0 where
   pub of_codes : length codes ≡ 256
   pub of_held : length held ≡ 256
@@ -72,3 +72,8 @@ pub record Tells (live : List Totals) (received : List ℕ) : Type 0 where
   pub of_live : length live ≡ 16
   pub of_received : length received ≡ 16
   pub tells : (t : ℕ) → t < 16 → get_or received t 0 ≡ (totals_at live t).count
+
+-- what always holds of the columns of a run with these live totals
+pub record Sound (codes : List ℕ) (held : List ℤ) (heads counts received : List ℕ) (live : List Totals) : Type 0 where
+  pub laid : Laid codes held heads counts
+  pub tells : Tells live received

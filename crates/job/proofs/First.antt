@@ -68,3 +68,10 @@ is_first (true ∷ xs) k (suc i) f = absurd (true≢false (f.none_before 0 (omeg
 is_first (false ∷ xs) k zero f = absurd (true≢false (sym f.holds))
 is_first (false ∷ xs) k (suc i) f =
     is_first xs (suc k) i (record { holds = f.holds; none_before = λ j l. f.none_before (suc j) (omega arith) }) ∙ omega arith
+
+-- the number found is none past the list's end
+pub first_most : (xs : List Bool) (k : ℕ) → 0 < k → first_fault xs k < length xs + k
+unfolding first_fault
+first_most [] k p = omega arith
+first_most (true ∷ xs) k p = omega arith
+first_most (false ∷ xs) k p = let h = first_most xs (suc k) (omega arith) in omega (arith, h)

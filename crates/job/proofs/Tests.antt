@@ -1,27 +1,19 @@
--- Laws of the tests over the numbers below n: one turn of a loop, and what a test's answer says of each number.
+-- Laws of the tests over the numbers below n: one turn of a loop that fills a list, and what a test's answer says of each number.
 use mathlib.Core.Path.{◌≡◌, refl, ap, ap₂, ◌∙◌, sym}
 use mathlib.Core.Bool.{Bool, true, false, ◌||◌, ◌&&◌, true≢false, false≢true}
-use mathlib.Core.List.{List}
-use Prim.Native.Nat.{ℕ, zero, suc, ◌+◌, ◌<◌, ◌≤◌}
+use mathlib.Core.List.{List, [], ◌∷◌, ◌++◌}
+use Prim.Native.Nat.{ℕ, zero, suc, ◌+◌, ◌-◌, ◌<◌, ◌≤◌}
 use native.Mathlib.Numerals.{add-one}
 use native.Mathlib.Omega.{arith}
 use borrow.Author.Tests.{eqb-true, eqb-false}
 use lib.Dec.{eqb}
-use lib.ListN.{length, get_or, set, replicate, length-set, length-replicate}
-use lib.Seq.{get_or-set_same, get_or-set_other}
+use lib.ListN.{length, get_or, set, replicate, take, drop, length-set, length-replicate}
+use lib.Seq.{get_or-set_same, get_or-set_other, take-suc, take-length}
+use Rattle.std.proofs.lemmas.List.{append_assoc, length-take-le, drop-set, drop-set-add, set-append_right}
 use Rattle.job.specs.Tests.{some, every, filled, sweep, sweeps}
 use Rattle.job.proofs.Bools.{both_true, neither}
 
--- ---- one turn of a loop that has looked at the numbers below i
-pub some_more : (p : ℕ → Bool) (i : ℕ) {found x : Bool} → found ≡ some p i → x ≡ p i → found || x ≡ some p (i + 1)
-unfolding some
-some_more p i f e = rw add-one (ap₂ ◌||◌ f e)
-
-pub every_more : (p : ℕ → Bool) (i : ℕ) {all x : Bool} → all ≡ every p i → x ≡ p i → all && x ≡ every p (i + 1)
-unfolding every
-every_more p i f e = rw add-one (ap₂ ◌&&◌ f e)
-
--- one turn of a loop that fills, or sweeps over, a list
+-- ---- one turn of a loop that fills, or sweeps over, a list
 module _ {A : Type 0} where
   pub filled_more : (size : ℕ) (d : A) (f : ℕ → A) (i : ℕ) {l : List A} {x : A} → l ≡ filled size d f i → x ≡ f i
       → set l i x ≡ filled size d f (i + 1)
@@ -114,3 +106,27 @@ module _ {A : Type 0} where
   filled_past size d f zero i h = same_past size d i
   filled_past size d f (suc n) i h =
       get_or-set_other (filled size d f n) n i (f n) d (omega arith) ∙ filled_past size d f n i (omega arith)
+
+  -- the numbers of a list, in the first places of a longer one
+  filled_front : (size : ℕ) (d : A) (l : List A) (n : ℕ) → n ≤ length l → n ≤ size
+      → take n l ++ drop n (replicate size d) ≡ filled size d (λ i. get_or l i d) n
+  unfolding filled
+  filled_front size d l zero h k = refl
+  filled_front size d l (suc n) h k =
+      let r = replicate size d in
+      let x = get_or l n d in
+      let long : n < length r = omega (arith, length-replicate size d) in
+      let next : n + 1 ≡ suc n = omega arith in
+      let here : n + 0 ≡ n = omega arith in
+      let none : n - n ≡ 0 = omega arith in
+      let at : set (drop n r) 0 x ≡ x ∷ drop (suc n) r =
+      sym (drop-set-add n r 0 x) ∙ ap (λ i. drop n (set r i x)) here ∙ drop-set r n x long ∙ ap (λ k. x ∷ drop k r) next in
+      let stored : set (take n l ++ drop n r) n x ≡ take n l ++ x ∷ drop (suc n) r =
+      set-append_right (take n l) (drop n r) n n x (length-take-le n l (omega arith)) (omega arith)
+      ∙ ap (λ i. take n l ++ set (drop n r) i x) none ∙ ap (λ ys. take n l ++ ys) at
+      in
+      ap (λ xs. xs ++ drop (suc n) r) (take-suc l n d (omega arith)) ∙ append_assoc (take n l) (x ∷ []) (drop (suc n) r)
+      ∙ sym stored ∙ ap (λ xs. set xs n x) (filled_front size d l n (omega arith) (omega arith))
+
+  pub filled_whole : (size : ℕ) (d : A) (l : List A) → length l ≤ size → l ++ drop (length l) (replicate size d) ≡ filled size d (λ i. get_or l i d) (length l)
+  filled_whole size d l h = ap (λ xs. xs ++ drop (length l) (replicate size d)) (sym (take-length l)) ∙ filled_front size d l (length l) (omega arith) h

@@ -1,11 +1,12 @@
 -- A job as it comes: seven lent columns of signed 32-bit numbers (document 01, "The job"). Rules 1 to 6 of the table of job answers,
 -- each in the table's words. A column is read by `get_or`; what stands past its end is 0, and no rule that reads there is asked before the
 -- lengths were found right.
-use Rattle.std.specs.Prelude.{◌≡◌, Bool, true, false, cond, ◌&&◌, ◌||◌, not, List, [], ℕ, ◌<◌, ◌≤◌, eqb, ltb, ℤ, pos, nat_abs, ◌+ℤ◌, length, get_or}
+use Rattle.std.specs.Prelude.{◌≡◌, Bool, true, false, cond, ◌&&◌, ◌||◌, not, List, ℕ, ◌<◌, ◌≤◌, eqb, ltb, ℤ, pos, nat_abs, ◌+ℤ◌, length, get_or}
 use Rattle.std.specs.Int.Signed.{le_z, lt_z}
 use Rattle.tally.specs.declared.Record.{Record}
 use Rattle.kinds.specs.Kinds.{within, is_value}
 use Rattle.job.specs.Tests.{some}
+use Rattle.job.specs.declared.lent.Lent.{Lent}
 
 -- tasks: kind, a, b; channels: from, to; records: cylinder, value
 pub record Columns : Type 0 where
@@ -20,9 +21,9 @@ pub record Columns : Type 0 where
 abbrev pub columns : List ℤ → List ℤ → List ℤ → List ℤ → List ℤ → List ℤ → List ℤ → Columns
 columns k a b f t c v = record { kinds = k; a = a; b = b; from = f; to = t; cylinders = c; values = v }
 
--- the same without records, which the job by value leaves where they are
-abbrev pub tasks_and_channels : List ℤ → List ℤ → List ℤ → List ℤ → List ℤ → Columns
-tasks_and_channels k a b f t = columns k a b f t [] []
+-- the columns that stand behind what a host lends
+abbrev pub columns_of : Lent → Columns
+columns_of L = columns L.kinds.now L.a.now L.b.now L.from.now L.to.now L.records.cylinders.now L.records.values.now
 
 abbrev pub number_of : List ℤ → ℕ → ℤ
 number_of column i = get_or column i (pos 0)

@@ -1,6 +1,6 @@
 -- A job by value. After rules 1 to 6 every number of its columns is a small one, and the job is held in arrays of 16 and 32 places; the
 -- places past its tasks and channels hold 0.
-use Rattle.std.specs.Prelude.{◌≡◌, Bool, true, List, [], ℕ, zero, suc, ◌+◌, ◌≤◌, ◌<◌, eqb, ℤ, pos, nat_abs, length, get_or, replicate}
+use Rattle.std.specs.Prelude.{◌≡◌, Bool, true, List, ℕ, zero, suc, ◌+◌, ◌≤◌, ◌<◌, eqb, ℤ, pos, nat_abs, length, get_or}
 use mir.Val.{bool_byte}
 use Rattle.kinds.specs.Kinds.{within}
 use Rattle.job.specs.Tests.{filled}
@@ -35,32 +35,6 @@ pub record Small (J : Columns) : Type 0 where
   pub kind_bytes : Bytes J.kinds
   pub from_bytes : Bytes J.from
   pub to_bytes : Bytes J.to
-
-abbrev pub no_job : Job
-no_job = record {
-  kinds = replicate 16 0;
-  a = replicate 16 (pos 0);
-  b = replicate 16 (pos 0);
-  tasks = 0;
-  from = replicate 32 0;
-  to = replicate 32 0;
-  channels = 0;
-}
-
--- the job as lines 7 to 9 read it, by the columns that they read; and by its channels alone
-abbrev pub job_by : List ℕ → List ℤ → ℕ → List ℕ → List ℕ → ℕ → Job
-job_by kinds b tasks from to channels = record {
-  kinds = kinds;
-  a = [];
-  b = b;
-  tasks = tasks;
-  from = from;
-  to = to;
-  channels = channels;
-}
-
-abbrev pub linked : List ℕ → List ℕ → ℕ → Job
-linked from to channels = job_by [] [] 16 from to channels
 
 -- ---- reading it
 abbrev pub kind_of : Job → ℕ → ℕ

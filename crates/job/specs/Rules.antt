@@ -1,12 +1,14 @@
 -- The table of job answers (document 01): rules 7 to 9 over the job by value, and the answer as the first rule in order that fails.
 -- A reader believes `Walk`, `WorstCounts` and the tests 1 to 7; that each number is given exactly when its line holds is `exact` in
 -- proofs/Exact.antt, with `Walk` for line 8 and `WorstCounts` for line 9.
+use Rattle.std.specs.Prelude.{Result, Ok, Err}
 use Rattle.std.specs.Prelude.{◌≡◌, Bool, true, false, cond, ◌||◌, not, List, [], ◌∷◌, ◌++◌, ℕ, zero, suc, ◌+◌, ◌<◌, eqb, ltb, nat_abs, length, get_or, replicate}
 use Rattle.job.specs.Tests.{some, every, sweeps}
 use Rattle.job.specs.Columns.{Columns, fault1, fault2, fault3, fault4, fault5, fault6}
-use Rattle.job.specs.Jobs.{job_of, no_job, b_of, from_of, to_of, is_source, is_input}
+use Rattle.job.specs.Jobs.{job_of, b_of, from_of, to_of, is_source, is_input}
 use Rattle.job.specs.declared.Job.{Job}
-use Rattle.job.specs.declared.Checked.{Checked}
+use Rattle.job.specs.declared.fault.Fault.{Fault}
+use Rattle.job.specs.Faults.{fault_of}
 
 -- ---- 7: "a source with an input, or another task with none"
 unfoldable pub has_input : Job → ℕ → Bool
@@ -98,9 +100,6 @@ graph_faults job = fault7 job ∷ fault8 job ∷ fault9 job ∷ []
 unfoldable pub job_answer : Columns → ℕ
 job_answer J = first_fault (column_faults J ++ graph_faults (job_of J)) 1
 
--- what the check hands on: the answer, and the job by value where it is accepted
-abbrev pub refused_by : ℕ → Checked
-refused_by answer = record { job = no_job; answer = answer }
-
-unfoldable pub checked_of : Columns → Checked
-checked_of J = cond (eqb (job_answer J) 0) (record { job = job_of J; answer = 0 }) (refused_by (job_answer J))
+-- what the check hands on: the job by value where it is accepted, else the line
+unfoldable pub checked_of : Columns → Result Job Fault
+checked_of J = cond (eqb (job_answer J) 0) (Ok (job_of J)) (Err (fault_of (job_answer J)))

@@ -7,6 +7,7 @@ use Rattle.job.specs.Tests.{some, every, filled, sweep, sweeps}
 use Rattle.job.specs.Columns.{Columns, columns, number_of, fault1, fault2, fault3, fault4, fault5, fault6}
 use Rattle.job.specs.Columns.{bad_task, off_table, bad_part, bad_record, bad_records}
 use Rattle.job.specs.Jobs.{job_of}
+use Rattle.job.specs.Faults.{line_of, fault_of}
 use Rattle.job.specs.Rules.{job_answer, first_fault, graph_faults, has_input, fault7, fault8, fault9}
 use Rattle.job.specs.Rules.{strike, struck_tasks, capped, capped_inflow, worst_anew, worst_counts}
 
@@ -88,3 +89,16 @@ unfolding some every filled sweep sweeps job_of job_answer first_fault capped ca
     fault1 fault2 fault3 fault4 fault5 fault6 bad_task off_table bad_part bad_record bad_records
     has_input fault7 fault8 fault9 strike struck_tasks worst_anew worst_counts
 table = (refl, refl, refl, by_line4 8, by_line4 9, refl)
+
+-- each line has its own number, and the number names the line
+pub lines :
+    (line_of (fault_of 1) ≡ 1)
+    × (line_of (fault_of 2) ≡ 2)
+    × (line_of (fault_of 3) ≡ 3)
+    × (line_of (fault_of 4) ≡ 4)
+    × (line_of (fault_of 5) ≡ 5)
+    × (line_of (fault_of 6) ≡ 6)
+    × (line_of (fault_of 7) ≡ 7)
+    × (line_of (fault_of 8) ≡ 8)
+    × (line_of (fault_of 9) ≡ 9)
+lines = (refl, refl, refl, refl, refl, refl, refl, refl, refl)

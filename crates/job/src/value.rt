@@ -1,11 +1,12 @@
 // The arrays of a job by value, filled from its columns.
 ghost use Rattle.std.specs.Prelude.{◌≡◌, ◌≤◌, nat_abs, pos, length, true};
 ghost use Rattle.kinds.specs.Kinds.{within};
-ghost use Rattle.job.specs.Tests.{filled};
-ghost use Rattle.job.specs.Columns.{number_of, Bytes};
+ghost use Rattle.job.specs.Jobs.{bytes_in, numbers_in};
+ghost use Rattle.job.specs.Columns.{Bytes};
 
+// A number of 0 to 255 as a byte.
 #[tactic(auto, using(crate::proofs::Ints::within_non_neg, crate::proofs::Ints::within_nat_abs))]
-fn byte_of(x: i32) -> u8
+pub fn byte_of(x: i32) -> u8
     requires { within (pos 0) x (pos 255) ≡ true }
     ensures { result ≡ nat_abs x }
 {
@@ -13,43 +14,23 @@ fn byte_of(x: i32) -> u8
 }
 
 #[tactic(auto, using(crate::proofs::Tests::filled_more), unfolding(crate::specs::Tests::filled))]
-pub fn bytes_16(column: &[i32]) -> [u8; 16]
-    requires { (length column.now ≤ 16) × Bytes column.now }
-    ensures { result ≡ filled 16 0 (λ t. nat_abs (number_of column.now t)) (length column.now) }
+pub fn bytes<const N: usize>(column: &[i32]) -> [u8; N]
+    requires { (length column.now ≤ N) × Bytes column.now }
+    ensures { result ≡ bytes_in N column.now }
 {
-    let mut held = [0u8; 16];
-    let mut i: usize = 0;
-    while i < column.len() {
+    let mut held = [0u8; N];
+    for i in 0..column.len() {
         held[i] = byte_of(column[i]);
-        i += 1;
     }
     held
 }
 
-#[tactic(auto, using(crate::proofs::Tests::filled_more), unfolding(crate::specs::Tests::filled))]
-pub fn bytes_32(column: &[i32]) -> [u8; 32]
-    requires { (length column.now ≤ 32) × Bytes column.now }
-    ensures { result ≡ filled 32 0 (λ t. nat_abs (number_of column.now t)) (length column.now) }
+#[tactic(auto, using(crate::proofs::Tests::filled_whole))]
+pub fn numbers<const N: usize>(column: &[i32]) -> [i32; N]
+    requires { length column.now ≤ N }
+    ensures { result ≡ numbers_in N column.now }
 {
-    let mut held = [0u8; 32];
-    let mut i: usize = 0;
-    while i < column.len() {
-        held[i] = byte_of(column[i]);
-        i += 1;
-    }
-    held
-}
-
-#[tactic(auto, using(crate::proofs::Tests::filled_more), unfolding(crate::specs::Tests::filled))]
-pub fn numbers_16(column: &[i32]) -> [i32; 16]
-    requires { length column.now ≤ 16 }
-    ensures { result ≡ filled 16 (pos 0) (number_of column.now) (length column.now) }
-{
-    let mut held = [0i32; 16];
-    let mut i: usize = 0;
-    while i < column.len() {
-        held[i] = column[i];
-        i += 1;
-    }
+    let mut held = [0i32; N];
+    held[..column.len()].copy_from_slice(column);
     held
 }

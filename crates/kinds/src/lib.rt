@@ -2,10 +2,11 @@
 #![tactic(auto)]
 
 ghost use Rattle.std.specs.Prelude.{◌≡◌, ◌≤◌};
-ghost use Rattle.kinds.specs.Kinds.{scaled, within, is_place, one_if, sent_on, Scales, Sendable};
+ghost use Rattle.kinds.specs.Kinds.{scaled, within, is_place, sent_on, Scales, Sendable};
 
 use tally::Record;
 
+// Numbers, not an enum: `sent` and the job of any columns answer for any number, so an enum would ask more.
 pub const SOURCE: u8 = 0;
 
 pub const PASS: u8 = 1;
@@ -18,20 +19,11 @@ pub const CYLINDER: u8 = 4;
 
 pub const SPREAD: u8 = 5;
 
-#[derive(Clone, Copy)]
-pub enum Sending {
-    Nothing,
-    One(Record),
-}
-
 // Whether a <= value <= b.
 pub fn is_within(a: i32, value: i32, b: i32) -> bool
     ensures { result ≡ within a value b }
 {
-    if a <= value {
-        return value <= b;
-    }
-    false
+    a <= value && value <= b
 }
 
 // The one place that rounds: toward zero, as signed division does.
@@ -47,42 +39,23 @@ fn is_place(cylinder: u8, place: u32, outputs: u32) -> bool
     requires { 1 ≤ cylinder }
     ensures { result ≡ is_place cylinder place outputs }
 {
-    if outputs == 0 {
-        return false;
-    }
-    (cylinder as u32 - 1) % outputs == place
-}
-
-fn one_if(keep: bool, got: Record) -> Sending
-    ensures { result ≡ one_if keep got }
-{
-    if keep {
-        return Sending::One(got);
-    }
-    Sending::Nothing
+    outputs != 0 && (u32::from(cylinder) - 1) % outputs == place
 }
 
 // What the task sends for `got` on its output at `place` of `outputs`.
 #[tactic(auto, unfolding(crate::specs::Kinds::sent_on))]
-pub fn sent(kind: u8, a: i32, b: i32, place: u32, outputs: u32, got: Record) -> Sending
+pub fn sent(kind: u8, a: i32, b: i32, place: u32, outputs: u32, got: Record) -> Option<Record>
     requires { Sendable kind a got }
     ensures { result ≡ sent_on kind a b place outputs got }
 {
-    if kind == RANGE {
-        return one_if(is_within(a, got.value, b), got);
+    match kind {
+        RANGE => is_within(a, got.value, b).then_some(got),
+        SCALE => Some(Record {
+            value: scale(got.value, a),
+            ..got
+        }),
+        CYLINDER => is_within(a, i32::from(got.cylinder), b).then_some(got),
+        SPREAD => is_place(got.cylinder, place, outputs).then_some(got),
+        _ => Some(got),
     }
-    if kind == SCALE {
-        let value = scale(got.value, a);
-        return Sending::One(Record {
-            cylinder: got.cylinder,
-            value,
-        });
-    }
-    if kind == CYLINDER {
-        return one_if(is_within(a, got.cylinder as i32, b), got);
-    }
-    if kind == SPREAD {
-        return one_if(is_place(got.cylinder, place, outputs), got);
-    }
-    Sending::One(got)
 }

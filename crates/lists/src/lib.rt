@@ -8,9 +8,11 @@ ghost use Rattle.run.specs.Fit.{Fits};
 ghost use Rattle.step.specs.Step.{stepped};
 ghost use Rattle.lists.specs.Lists.{is_done, counted, listed_to};
 
-use job::Job;
+use job::{Job, Records};
 use run::Run;
+use step::{DONE, SNAPSHOT_COMPLETE};
 
+// The answer stands beside the run and the counts, as document 01 has it: refused, a list "reports zero counts".
 #[derive(Clone, Copy)]
 pub struct Listed {
     pub run: Run,
@@ -22,43 +24,38 @@ pub struct Listed {
 fn is_done(answer: u8) -> bool
     ensures { result ≡ is_done answer }
 {
-    (answer == 0) | (answer == 20)
+    answer == DONE || answer == SNAPSHOT_COMPLETE
 }
 
 // One step more of a list, done or refused, and counted.
-#[tactic(auto, using(job::proofs::Ints::byte_le), unfolding(step::specs::Step::stepped))]
-fn one_more(job: Job, cylinders: &[i32], values: &[i32], l: Listed, n: u16) -> Listed
-    requires { JobFits job (length cylinders.now) × Fits job l.run × RecordsFit cylinders.now values.now × (l.done < 9223372036854775808) × (l.refused < 9223372036854775808) }
-    ensures { result ≡ counted l (stepped job cylinders.now values.now l.run n) }
+fn one_more(job: Job, records: &Records, l: Listed, n: u16) -> Listed
+    requires { JobFits job (length records.now.cylinders.now) × Fits job l.run × RecordsFit records.now.cylinders.now records.now.values.now × (l.done < 9223372036854775808) × (l.refused < 9223372036854775808) }
+    ensures { result ≡ counted l (stepped job records.now.cylinders.now records.now.values.now l.run n) }
 {
-    let run = l.run;
-    let s = step::step(job, cylinders, values, run, n);
+    let s = step::step(job, records, l.run, n);
     let done = is_done(s.answer);
-    let next = s.run;
     Listed {
-        run: next,
-        answer: 0,
-        done: l.done + done as usize,
-        refused: l.refused + !done as usize,
+        run: s.run,
+        answer: DONE,
+        done: l.done + usize::from(done),
+        refused: l.refused + usize::from(!done),
     }
 }
 
 // The steps of a list, in order.
-#[tactic(auto, using(crate::proofs::Listing::listed_more, crate::proofs::Listing::listed_fits, crate::proofs::Listing::done_few, crate::proofs::Listing::refused_few), unfolding(crate::specs::Lists::listed_to))]
-pub fn steps(job: Job, cylinders: &[i32], values: &[i32], run: Run, numbers: &[u16]) -> Listed
-    requires { JobFits job (length cylinders.now) × Fits job run × RecordsFit cylinders.now values.now }
-    ensures { result ≡ listed_to job cylinders.now values.now run numbers.now (length numbers.now) }
+#[tactic(auto, using(crate::proofs::Listing::listed_fits, crate::proofs::Listing::done_few, crate::proofs::Listing::refused_few), unfolding(crate::specs::Lists::listed_to))]
+pub fn steps(job: Job, records: &Records, run: Run, numbers: &[u16]) -> Listed
+    requires { JobFits job (length records.now.cylinders.now) × Fits job run × RecordsFit records.now.cylinders.now records.now.values.now }
+    ensures { result ≡ listed_to job records.now.cylinders.now records.now.values.now run numbers.now (length numbers.now) }
 {
     let mut l = Listed {
         run,
-        answer: 0,
+        answer: DONE,
         done: 0,
         refused: 0,
     };
-    let mut k: usize = 0;
-    while k < numbers.len() {
-        l = one_more(job, cylinders, values, l, numbers[k]);
-        k += 1;
+    for &n in numbers {
+        l = one_more(job, records, l, n);
     }
     l
 }

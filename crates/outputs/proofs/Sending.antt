@@ -1,12 +1,11 @@
 -- The parts told by numbers are the step rules' own (`marked_by`, `put_by_lem`), and what a task sends goes on one output after the other:
--- one turn of the loop at an output (`put_here`, `place_here`) and at another channel (`not_here`, `place_not`).
+-- one turn of the loop at an output (`carried_here`, `put_here`, `place_here`) and at another channel (`not_here`, `place_not`).
 use mathlib.Core.Path.{◌≡◌, refl, sym, ap, ◌∙◌}
 use mathlib.Core.Bool.{Bool, true, false}
 use mathlib.Core.List.{List, [], ◌∷◌}
 use Prim.Native.Nat.{ℕ, zero, suc, ◌+◌}
 use native.Mathlib.Numerals.{add-one}
 use native.Mathlib.Omega.{arith}
-use lib.IntN.{ℤ}
 use lib.ListN.{get_or, set}
 use Rattle.channel.specs.declared.Cargo.{Cargo}
 use Rattle.channel.specs.declared.Cargo.TheVariants.{Barrier, Record as Recorded}
@@ -28,12 +27,6 @@ unfolding carried_by
 put_by_lem job t place outputs Barrier ch = refl
 put_by_lem job t place outputs (Recorded r) ch = refl
 
-pub put_same : (kind : ℕ) (a a' b b' : ℤ) (place place' outputs outputs' : ℕ) (cargo : Cargo) (ch : Channel)
-    → a ≡ a' → b ≡ b' → place ≡ place' → outputs ≡ outputs'
-    → put_by kind a b place outputs cargo ch ≡ put_by kind a' b' place' outputs' cargo ch
-put_same kind a a' b b' place place' outputs outputs' Barrier ch p q r s = refl
-put_same kind a a' b b' place place' outputs outputs' (Recorded got) ch p q r s = cc
-
 -- ---- one output after the other
 pub set_self : {A : Type 0} (l : List A) (i : ℕ) (d : A) → set l i (get_or l i d) ≡ l
 set_self [] i d = refl
@@ -45,11 +38,16 @@ abbrev pub put_to : Job → ℕ → Cargo → List Channel → ℕ → List Chan
 put_to job t cargo held j = each_place no_channel (put_on job t cargo) held j
 
 module _ (job : Job) (t : ℕ) (cargo : Cargo) (held now : List Channel) (j : ℕ) (so_far : now ≡ put_to job t cargo held j) where
+  pub carried_here : (next : Channel) → is_output job t j ≡ true
+      → next ≡ carried job t (place_of job t j) (place_of job t job.channels) cargo (get_or now j no_channel)
+      → set now j next ≡ put_to job t cargo held (j + 1)
+  unfolding put_on
+  carried_here next o n = place_more no_channel (put_on job t cargo) held j so_far (n ∙ simp o)
+
   pub put_here : (next : Channel) → is_output job t j ≡ true
       → next ≡ put_by (kind_of job t) (a_of job t) (b_of job t) (place_of job t j) (place_of job t job.channels) cargo (get_or now j no_channel)
       → set now j next ≡ put_to job t cargo held (j + 1)
-  unfolding put_on
-  put_here next o n = place_more no_channel (put_on job t cargo) held j so_far (n ∙ put_by_lem job t _ _ cargo _ ∙ simp o)
+  put_here next o n = carried_here next o (n ∙ put_by_lem job t _ _ cargo _)
 
   pub not_here : is_output job t j ≡ false → now ≡ put_to job t cargo held (j + 1)
   unfolding each_place put_on

@@ -1,8 +1,7 @@
 -- A task's outputs and inputs, as the step rules speak of them: "some output channel of the task holds 8 items", "all inputs of the task
 -- are marked", "every task has stored", and what a barrier or a received record puts on every output.
-use Rattle.std.specs.Prelude.{◌≡◌, refl, Bool, true, false, cond, not, ◌&&◌, ◌||◌, List, ℕ, zero, suc, ◌+◌, ltb, leb, get_or, set}
-use Rattle.kinds.specs.declared.Sending.{Sending}
-use Rattle.kinds.specs.declared.Sending.TheVariants.{Nothing, One}
+use Rattle.std.specs.Prelude.{◌≡◌, refl, Bool, true, false, cond, not, ◌&&◌, ◌||◌, List, ℕ, zero, suc, ◌+◌, ltb, leb, get_or, set, Option, None, Some}
+use Rattle.tally.specs.declared.Record.{Record}
 use Rattle.channel.specs.declared.Cargo.{Cargo}
 use Rattle.channel.specs.declared.Cargo.TheVariants.{Barrier, Record as Recorded}
 use Rattle.channel.specs.declared.Channel.{Channel}
@@ -55,9 +54,9 @@ sources_wait job n waiting = each_place 0 (λ t waits. one_more_waits n (is_sour
 abbrev pub put : Channel → Cargo → Channel
 put ch cargo = (with_item ch (record { cargo = cargo })).channel
 
-abbrev pub put_sent : Channel → Sending → Channel
-put_sent ch Nothing = ch
-put_sent ch (One r) = put ch (Recorded r)
+abbrev pub put_sent : Channel → Option Record → Channel
+put_sent ch None = ch
+put_sent ch (Some r) = put ch (Recorded r)
 
 -- a barrier goes on every output; a record is "sent by the kind's rule"
 abbrev pub carried : Job → ℕ → ℕ → ℕ → Cargo → Channel → Channel

@@ -34,7 +34,7 @@ use Rattle.step.proofs.Keeps.{stepped_fits}
 use Rattle.lists.specs.Lists.{is_done}
 use Rattle.drain.specs.Drains.{some_left, possible, first_from, lowest, drained_of}
 use Rattle.station.specs.Entries.{entry, step_on, steps_on, drain_on}
-use Rattle.station.proofs.Admission.{admitted}
+use Rattle.station.proofs.Admission.{admitted, entry_job}
 use Rattle.step.specs.Handlers.{Sized, Head, Open, Refused}
 use Rattle.promises.specs.Demands.{Ends, Demand1, ChannelCalls}
 use Rattle.promises.specs.Demands.Ends.{nothing_left, spent, stuck}
@@ -42,7 +42,7 @@ use Rattle.step.specs.Handlers.Refused.{no_channel, blocked, empty, no_room, no_
 use Rattle.step.specs.Handlers.Refused.{no_room_to_read, cannot_send, none_waits, no_room_to_send, under_way, no_such_step}
 use Rattle.promises.proofs.Conditions.{is_full_lem, full_is, no_full, not_full, is_completing, completing_is, is_source_lem}
 use Rattle.promises.proofs.Conditions.{no_source, empty_count, taken_rest, at_head, at_empty, at_delivery, at_read, at_send, at_none}
-use Rattle.promises.proofs.Conditions.{entry_job, entry_fits, entry_misfits}
+use Rattle.promises.proofs.Conditions.{entry_fits, entry_misfits}
 use Rattle.promises.proofs.InOrder.{OnStep, counts_all}
 
 -- ---- a step

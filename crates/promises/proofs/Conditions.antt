@@ -1,7 +1,7 @@
 -- The conditions of step/specs/Handlers.antt and the tests of the step rules say the same, on a run that fits; what a delivery finds at
 -- the head; and when a call is admitted.
 use mathlib.Core.Path.{◌≡◌, refl, sym, ap, ◌∙◌}
-use mathlib.Core.Bool.{Bool, true, false, cond, not, ◌&&◌, ◌||◌, true≢false}
+use mathlib.Core.Bool.{Bool, true, false, not, ◌&&◌, ◌||◌, true≢false}
 use mathlib.Core.List.{List, [], ◌∷◌}
 use mathlib.Core.Logic.{◌↔◌}
 use Prim.Native.Nat.{ℕ, ◌+◌, ◌-◌, ◌<◌, ◌≤◌}
@@ -15,7 +15,6 @@ use Rattle.channel.specs.declared.Cargo.{Cargo}
 use Rattle.channel.specs.declared.Channel.{Channel}
 use Rattle.channel.specs.Channels.{held, barrier, without_head}
 use Rattle.channel.proofs.Queues.{taken_0, taken_13, taken_holds}
-use Rattle.job.specs.declared.Checked.{Checked}
 use Rattle.job.specs.declared.Job.{Job}
 use Rattle.job.specs.Columns.{Columns}
 use Rattle.job.specs.Jobs.{JobSized, job_of, to_of, from_of, is_input, is_output}
@@ -33,7 +32,7 @@ use Rattle.step.specs.Step.{with_cargo, delivered, is_no_source, source_read, ba
 use Rattle.step.proofs.Sources.{opened, given, not_given, source_is}
 use Rattle.step.specs.Handlers.{Sized, Head, Source, Open, Full, Completes}
 use Rattle.station.specs.Entries.{entry}
-use Rattle.station.proofs.Admission.{check_answer, refused_job, admitted_fits, admitted_16}
+use Rattle.station.proofs.Admission.{entry_by}
 
 -- a test that does not pass where the condition does not hold
 pub fails : {P : Type 0} (b : Bool) → (b ≡ true → P) → (P → ⊥) → b ≡ false
@@ -188,19 +187,12 @@ module _ (job : Job) (c v : List ℤ) (run : Run) where
 
 -- ---- 1 to 9, then 16: a call is admitted exactly on an accepted job and a run that fits
 module _ (J : Columns) where
-  pub entry_job : (run : Run) → (job_answer J ≡ 0 → ⊥) → entry J run ≡ job_answer J
-  entry_job run ne = ap (λ (x : Checked). x.answer) (sym (refused_job J run ne)) ∙ check_answer J
-
   module _ (run : Run) (z : job_answer J ≡ 0) where
-    entry_by : (b : Bool) → run_fits (job_of J) run ≡ b → entry J run ≡ cond b 0 16
-    entry_by true e = ap (λ (x : Checked). x.answer) (sym (admitted_fits J run z e))
-    entry_by false e = ap (λ (x : Checked). x.answer) (sym (admitted_16 J run z e))
-
     exactly : (run_fits (job_of J) run ≡ true) ↔ Fits (job_of J) run
     exactly = fits_exact (job_of J) (accepted_fits J z).sends.sized run
 
     pub entry_fits : Fits (job_of J) run → entry J run ≡ 0
-    entry_fits F = entry_by true (exactly.1 F)
+    entry_fits F = entry_by J run true z (exactly.1 F)
 
     pub entry_misfits : (Fits (job_of J) run → ⊥) → entry J run ≡ 16
-    entry_misfits n = entry_by false (fails (run_fits (job_of J) run) exactly.0 n)
+    entry_misfits n = entry_by J run false z (fails (run_fits (job_of J) run) exactly.0 n)

@@ -2,7 +2,7 @@
 -- and a run after steps is read as the run of `laws` after the same steps (`exec_at`); whatever is counted over steps is counted there
 -- (`counts_at`).
 use mathlib.Core.Path.{◌≡◌, refl, sym, ap, ap₂, subst, ◌∙◌}
-use mathlib.Core.Bool.{Bool, false, cond}
+use mathlib.Core.Bool.{Bool, false, cond, true}
 use mathlib.Core.List.{List, [], ◌∷◌}
 use Prim.Native.Nat.{ℕ, ◌+◌}
 use native.Mathlib.Omega.{arith}
@@ -32,7 +32,7 @@ use Rattle.lists.specs.Lists.{is_done}
 use Rattle.drain.specs.declared.Drained.{Drained}
 use Rattle.drain.specs.Drains.{possible, lowest, drained_of}
 use Rattle.station.specs.Entries.{step_on, steps_on, drain_on}
-use Rattle.station.proofs.Admission.{admitted_fits, step_admitted, steps_admitted, drain_admitted}
+use Rattle.station.proofs.Admission.{Admitted, admitted, entry_by, step_admitted, steps_admitted, drain_admitted}
 use Rattle.promises.specs.Grown.{after_steps, grown, over_steps}
 use Rattle.promises.proofs.InOrder.{stepped_in, listed_in, counts_all, in_order, done_in_order}
 use Rattle.promises.proofs.Reading.{at, read_job, read_out}
@@ -92,14 +92,17 @@ module _ (J : Columns) (ok : job_answer J ≡ 0) where
 
   -- ---- every call on a fitting run is admitted
   module _ (run : Run) (F : Fits (job_of J) run) where
+    let_in : Admitted J run (job_of J)
+    let_in = admitted J run (entry_by J run true ok ((fits_exact (job_of J) the_job.sends.sized run).1 F))
+
     pub on_step : (k : ℕ) → step_on J run k ≡ stepped_in J run k
-    on_step k = sym (step_admitted J run (admitted_fits J run ok ((fits_exact (job_of J) the_job.sends.sized run).1 F)) refl k)
+    on_step k = sym (step_admitted J run let_in k)
 
     pub on_list : (ks : List ℕ) → steps_on J run ks ≡ listed_in J run ks (length ks)
-    on_list ks = sym (steps_admitted J run (admitted_fits J run ok ((fits_exact (job_of J) the_job.sends.sized run).1 F)) refl ks)
+    on_list ks = sym (steps_admitted J run let_in ks)
 
     pub on_drain : (limit : ℕ) → drain_on J run limit ≡ drained_in J limit 0 run
-    on_drain limit = sym (drain_admitted J run (admitted_fits J run ok ((fits_exact (job_of J) the_job.sends.sized run).1 F)) refl limit)
+    on_drain limit = sym (drain_admitted J run let_in limit)
 
   -- ---- one step of a run that goes along: without the checks, and by the call
   pub fresh_law : at_run fresh_run ≡ fresh_s law_job

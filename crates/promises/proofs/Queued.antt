@@ -8,8 +8,8 @@ use borrow.Author.Tests.{eqb-true, eq-eqb, ltb-true, ltb-false}
 use lib.Dec.{eqb, ltb}
 use lib.ListN.{length, get_or, set, drop, length-set, length-append, length-drop}
 use Rattle.tally.specs.declared.Record.{Record}
-use Rattle.kinds.specs.declared.Sending.{Sending}
-use Rattle.kinds.specs.declared.Sending.TheVariants.{Nothing, One}
+use Rattle.std.specs.Prelude.{Option}
+use Rattle.std.specs.Prelude.{None, Some}
 use Rattle.channel.specs.declared.Cargo.{Cargo}
 use Rattle.channel.specs.declared.Cargo.TheVariants.{Barrier, Record as Recorded}
 use Rattle.channel.specs.declared.Channel.{Channel}
@@ -81,10 +81,10 @@ items_for job Barrier d = barrier ∷ []
 items_for job (Recorded r) d = map as_item (over_channel job d r)
 
 module _ (job : Job) (few : job.channels ≤ 32) (t : ℕ) (l : List Channel) (W : Wide l) where
-  sent_holds : (ch : Channel) → length ch.items ≡ 8 → ch.count < 8 → (s : Sending)
+  sent_holds : (ch : Channel) → length ch.items ≡ 8 → ch.count < 8 → (s : Option Record)
       → held (put_sent ch s) ≡ held ch ++ map as_item (as_list s)
-  sent_holds ch wide h Nothing = sym (append-nil (held ch))
-  sent_holds ch wide h (One r) = added_holds ch wide (record { cargo = Recorded r }) h
+  sent_holds ch wide h None = sym (append-nil (held ch))
+  sent_holds ch wide h (Some r) = added_holds ch wide (record { cargo = Recorded r }) h
 
   carried_holds : (cargo : Cargo) (d : ℕ) (ch : Channel) → length ch.items ≡ 8 → ch.count < 8 → from_of job d ≡ t
       → held (carried job t (place_of job t d) (place_of job t job.channels) cargo ch) ≡ held ch ++ items_for job cargo d

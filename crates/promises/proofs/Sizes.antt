@@ -11,8 +11,8 @@ use lib.ListN.{length, get_or, set, replicate, length-set, length-replicate, get
 use Rattle.tally.specs.declared.Record.{Record}
 use Rattle.tally.specs.declared.Totals.{Totals}
 use Rattle.tally.specs.Totals.{no_totals}
-use Rattle.kinds.specs.declared.Sending.{Sending}
-use Rattle.kinds.specs.declared.Sending.TheVariants.{Nothing, One}
+use Rattle.std.specs.Prelude.{Option}
+use Rattle.std.specs.Prelude.{None, Some}
 use Rattle.channel.specs.declared.Cargo.{Cargo}
 use Rattle.channel.specs.declared.Cargo.TheVariants.{Barrier, Record as Recorded}
 use Rattle.channel.specs.declared.Channel.{Channel}
@@ -51,9 +51,9 @@ put_wide ch cargo w =
     (λ _. cond_has (λ (a : Added). length a.channel.items ≡ 8) (eqb ch.count 8) (λ _. w)
     (λ _. length-set ch.items ch.count (record { cargo = cargo }) ∙ w))
 
-sent_wide : (ch : Channel) (s : Sending) → length ch.items ≡ 8 → length (put_sent ch s).items ≡ 8
-sent_wide ch Nothing w = w
-sent_wide ch (One r) w = put_wide ch (Recorded r) w
+sent_wide : (ch : Channel) (s : Option Record) → length ch.items ≡ 8 → length (put_sent ch s).items ≡ 8
+sent_wide ch None w = w
+sent_wide ch (Some r) w = put_wide ch (Recorded r) w
 
 carried_wide : (job : Job) (t place outputs : ℕ) (cargo : Cargo) (ch : Channel) → length ch.items ≡ 8
     → length (carried job t place outputs cargo ch).items ≡ 8

@@ -3,8 +3,8 @@
 use Rattle.std.specs.Prelude.{◌≡◌, List, [], ◌∷◌, ℕ, ℤ, pos, negsuc, take}
 use Rattle.tally.specs.declared.Record.{Record}
 use Rattle.tally.specs.declared.Totals.{Totals}
-use Rattle.kinds.specs.declared.Sending.{Sending}
-use Rattle.kinds.specs.declared.Sending.TheVariants.{Nothing, One}
+use Rattle.std.specs.Prelude.{Option}
+use Rattle.std.specs.Prelude.{None, Some}
 use Rattle.kinds.specs.Kinds.{sent_on}
 use Rattle.job.specs.Rules.{job_answer}
 use Rattle.job.specs.Table.{station, passes, chain, fed_by_itself}
@@ -20,7 +20,7 @@ abbrev rec : ℕ → ℤ → Record
 rec cylinder value = record { cylinder = cylinder; value = value }
 
 -- what a task of a kind with parameters a, b sends for value v on its only output
-abbrev sends : ℕ → ℤ → ℤ → ℤ → Sending
+abbrev sends : ℕ → ℤ → ℤ → ℤ → Option Record
 sends kind a b v = sent_on kind a b 0 1 (rec 1 v)
 
 -- "Steps: 32 64 48 .."
@@ -50,11 +50,11 @@ abbrev pub SingleTable : Type 0
 SingleTable =
     (job_answer (passes 0) ≡ 1)
     × (job_answer (passes 17) ≡ 1)
-    × (sends 3 (pos 1) (pos 0) (negsuc 4) ≡ One (rec 1 (negsuc 1)))
-    × (sends 3 (pos 30) (pos 0) (negsuc 2147483647) ≡ One (rec 1 (negsuc 1)))
-    × (sends 3 (pos 30) (pos 0) (negsuc 0) ≡ One (rec 1 (pos 0)))
-    × (sends 2 (pos 10) (negsuc 9) (pos 0) ≡ Nothing)
-    × (sent_on 5 (pos 0) (pos 0) 1 3 (rec 20 (pos 7)) ≡ One (rec 20 (pos 7)))
+    × (sends 3 (pos 1) (pos 0) (negsuc 4) ≡ Some (rec 1 (negsuc 1)))
+    × (sends 3 (pos 30) (pos 0) (negsuc 2147483647) ≡ Some (rec 1 (negsuc 1)))
+    × (sends 3 (pos 30) (pos 0) (negsuc 0) ≡ Some (rec 1 (pos 0)))
+    × (sends 2 (pos 10) (negsuc 9) (pos 0) ≡ None)
+    × (sent_on 5 (pos 0) (pos 0) 1 3 (rec 20 (pos 7)) ≡ Some (rec 20 (pos 7)))
     × (job_answer (chain 8) ≡ 0)
     × (job_answer (chain 9) ≡ 9)
     × (job_answer fed_by_itself ≡ 8)

@@ -1,6 +1,6 @@
 -- What the proofs cite, from digits to a row. The theorem is in Fields: how long a row can be.
 pub mod Digits
 pub mod Putting
-pub mod Lower
+pub mod Printed
 pub mod Fields
 pub mod Table

@@ -1,43 +1,20 @@
 // Rows written into a lent buffer: each function writes at `at` and answers the place after what it wrote.
 #![tactic(auto)]
 
-ghost use Rattle.std.specs.Prelude.{◌≡◌, true, ◌++◌, ◌∷◌, ◌≤◌, ◌<◌, ◌+◌, ◌-◌, length, pos, negsuc};
-ghost use Rattle.std.specs.Int.Signed.{lt_z};
+ghost use Rattle.std.specs.Prelude.{◌++◌, ◌∷◌, ◌≤◌, ◌+◌, length};
 ghost use Rattle.rows.specs.Buffers.{Puts};
-ghost use Rattle.rows.specs.Decimals.{digits, decimal};
+ghost use Rattle.rows.specs.Decimals.{decimal};
 ghost use Rattle.rows.specs.Rows.{fields_of, crlf, row_of, numbers_of, refusal_of};
+
+use itoa::Buffer;
 
 pub fn put_bytes(out: &mut [u8], at: usize, bytes: &[u8]) -> usize
     requires { at + length bytes.now ≤ length out.old }
     ensures { Puts out.old at bytes.now out.new result }
 {
-    let mut i = 0;
-    while i < bytes.len() {
-        out[at + i] = bytes[i];
-        i += 1;
-    }
-    at + i
-}
-
-fn put_natural(out: &mut [u8], at: usize, n: u64) -> usize
-    requires { at + length (digits n) ≤ length out.old }
-    ensures { Puts out.old at (digits n) out.new result }
-{
-    if n < 10 {
-        out[at] = 48 + (n as u8);
-        return at + 1;
-    }
-    let e = put_natural(out, at, n / 10);
-    out[e] = 48 + ((n % 10) as u8);
-    e + 1
-}
-
-// How far a negative number lies below 0.
-fn below(z: i64) -> u64
-    requires { lt_z z (pos 0) ≡ true }
-    ensures { (negsuc (result - 1) ≡ z) × (0 < result) }
-{
-    ((-1 - z) as u64) + 1
+    let end = at + bytes.len();
+    out[at..end].copy_from_slice(bytes);
+    end
 }
 
 // The number's shortest decimal.
@@ -45,19 +22,15 @@ pub fn put_number(out: &mut [u8], at: usize, z: i64) -> usize
     requires { at + length (decimal z) ≤ length out.old }
     ensures { Puts out.old at (decimal z) out.new result }
 {
-    if z < 0 {
-        let m = below(z);
-        out[at] = 45;
-        return put_natural(out, at + 1, m);
-    }
-    put_natural(out, at, z as u64)
+    put_bytes(out, at, Buffer::new().format(z).as_bytes())
 }
 
+#[tactic(auto, using(crate::proofs::Putting::put_cons))]
 fn put_field(out: &mut [u8], at: usize, z: i64) -> usize
     requires { at + length (44 ∷ decimal z) ≤ length out.old }
     ensures { Puts out.old at (44 ∷ decimal z) out.new result }
 {
-    out[at] = 44;
+    out[at] = b',';
     put_number(out, at + 1, z)
 }
 
@@ -66,10 +39,8 @@ fn put_fields(out: &mut [u8], at: usize, zs: &[i64]) -> usize
     ensures { Puts out.old at (fields_of zs.now) out.new result }
 {
     let mut next = at;
-    let mut i = 0;
-    while i < zs.len() {
-        next = put_field(out, next, zs[i]);
-        i += 1;
+    for z in zs {
+        next = put_field(out, next, *z);
     }
     next
 }
@@ -92,7 +63,7 @@ pub fn put_row(out: &mut [u8], at: usize, word: &[u8], zs: &[i64]) -> usize
     put_rest(out, next, zs)
 }
 
-// A row that begins with a number.
+// A row that begins with a number; what it has in common with the one above is `put_rest`.
 pub fn put_numbers(out: &mut [u8], at: usize, z: i64, zs: &[i64]) -> usize
     requires { at + length (numbers_of z zs.now) ≤ length out.old }
     ensures { Puts out.old at (numbers_of z zs.now) out.new result }
@@ -106,7 +77,6 @@ pub fn put_refusal(out: &mut [u8], at: usize, answer: i64) -> usize
     requires { at + length (refusal_of answer) ≤ length out.old }
     ensures { Puts out.old at (refusal_of answer) out.new result }
 {
-    let next = put_bytes(out, at, b"refused\r\n");
-    let end = put_number(out, next, answer);
-    put_bytes(out, end, b"\r\n")
+    let next = put_row(out, at, b"refused", &[]);
+    put_numbers(out, next, answer, &[])
 }

@@ -1,34 +1,15 @@
--- Bounds on a sum of 32-bit values, as 64-bit numbers.
-use mathlib.Core.Path.{◌≡◌, ap, ◌∙◌}
+-- "Any signed 32-bit number", as a test and as the type's fact.
+use mathlib.Core.Path.{◌≡◌, ap}
 use mathlib.Core.Bool.{true, ◌&&◌}
-use Prim.Native.Nat.{ℕ, zero, suc, ◌*◌, ◌≤◌, ◌<◌, ◌^◌}
 use native.Mathlib.Omega.{arith}
-use lib.IntN.{ℤ, pos, negsuc, neg_ℤ, ◌-ℤ◌, ◌*ℤ◌, pos-*ℤ-pos, +ℤ_idl}
-use lib.Signed.{mag, le_z}
+use lib.IntN.{ℤ, pos, negsuc}
+use lib.Signed.{le_z}
 use borrow.Author.Tests.{leb-true, le-leb}
 use Rattle.kinds.specs.Kinds.{is_value}
 use Rattle.job.proofs.Bools.{both_true}
-use mir.Facts.{to_z_pos}
-use mir.Syntax.{w32, w64}
-use mir.Val.{SFits, to_z}
+use mir.Syntax.{w32}
+use mir.Val.{SFits}
 
-pub times_is : (n k : ℕ) → n < 2 ^ 62 → to_z w64 n *ℤ pos k ≡ pos (n * k)
-times_is n k few = ap (λ z. z *ℤ pos k) (to_z_pos w64 {n = n} (omega arith)) ∙ pos-*ℤ-pos n k
-
-pub pos_fits : (x : ℕ) → x < 2 ^ 62 → SFits w64 (pos x)
-pos_fits x h = record { sfits = omega arith }
-
-mag_neg : (x : ℕ) → mag (neg_ℤ (pos x)) ≤ x
-mag_neg zero = omega arith
-mag_neg (suc x) = omega arith
-
-pub neg_fits : (x : ℕ) → x < 2 ^ 62 → SFits w64 (neg_ℤ (pos x))
-neg_fits x h = record { sfits = omega (arith, mag_neg x) }
-
-pub minus_is : (z : ℤ) → pos 0 -ℤ z ≡ neg_ℤ z
-minus_is z = +ℤ_idl (neg_ℤ z)
-
--- ---- "any signed 32-bit number", as a test and as the type's fact
 pub value_is : (v : ℤ) → SFits w32 v → is_value v ≡ true
 value_is (pos n) f = le-leb n 2147483647 (omega (arith, f.sfits))
 value_is (negsuc n) f = ap (λ b. b && true) (le-leb n 2147483647 (omega (arith, f.sfits)))

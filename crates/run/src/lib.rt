@@ -17,6 +17,7 @@ pub struct Run {
     pub live: [Totals; 16],
     pub half: [Totals; 16],
     pub stored: [u8; 16],
+    // Beside `complete`, not in an Option: 16 is asked of these totals also where no snapshot is complete.
     pub last: [Totals; 16],
     pub under_way: u8,
     pub complete: bool,

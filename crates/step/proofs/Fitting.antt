@@ -13,8 +13,8 @@ use lib.Seq.{get_or-drop}
 use Rattle.tally.specs.declared.Record.{Record}
 use Rattle.tally.specs.declared.Totals.{Totals}
 use Rattle.tally.specs.Totals.{no_totals}
-use Rattle.kinds.specs.declared.Sending.{Sending}
-use Rattle.kinds.specs.declared.Sending.TheVariants.{Nothing, One}
+use Rattle.std.specs.Prelude.{Option}
+use Rattle.std.specs.Prelude.{None, Some}
 use Rattle.kinds.specs.Kinds.{sent_on, one_if, within, is_place, scaled}
 use Rattle.kinds.proofs.Ints.{quot_fits}
 use Rattle.channel.specs.declared.Cargo.{Cargo}
@@ -116,9 +116,9 @@ scaled_fits r a k =
     let v = value_is _ (quot_fits r.value (2 ^ nat_abs a) (is_value_lem r.value (value_fits r k))) in
     and_of _ _ (and_of _ _ (le-leb 1 r.cylinder (cylinder_from_1 r k)) (le-leb r.cylinder 20 (cylinder_to_20 r k))) v
 
-abbrev pub SendingFits : Sending → Type 0
-SendingFits Nothing = Unit {0}
-SendingFits (One r) = cargo_fits (Recorded r) ≡ true
+abbrev pub SendingFits : Option Record → Type 0
+SendingFits None = Unit {0}
+SendingFits (Some r) = cargo_fits (Recorded r) ≡ true
 
 one_fits : (keep : Bool) (r : Record) → cargo_fits (Recorded r) ≡ true → SendingFits (one_if keep r)
 one_fits true r k = k
@@ -132,9 +132,9 @@ sent_fits kind a b place outputs r k =
     (λ _. cond_has SendingFits (eqb kind 4) (λ _. one_fits (within a (pos r.cylinder) b) r k)
     (λ _. cond_has SendingFits (eqb kind 5) (λ _. one_fits (is_place r.cylinder place outputs) r k) (λ _. k))))
 
-put_sent_fits : (ch : Channel) (s : Sending) → ChannelFits ch → SendingFits s → ChannelFits (put_sent ch s)
-put_sent_fits ch Nothing f k = f
-put_sent_fits ch (One r) f k = put_fits ch (Recorded r) f k
+put_sent_fits : (ch : Channel) (s : Option Record) → ChannelFits ch → SendingFits s → ChannelFits (put_sent ch s)
+put_sent_fits ch None f k = f
+put_sent_fits ch (Some r) f k = put_fits ch (Recorded r) f k
 
 carried_fits : (job : Job) (t place outputs : ℕ) (cargo : Cargo) (ch : Channel) → ChannelFits ch → cargo_fits cargo ≡ true
     → ChannelFits (carried job t place outputs cargo ch)

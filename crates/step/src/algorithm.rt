@@ -6,7 +6,7 @@ ghost use Rattle.job.specs.Fits.{Sends};
 ghost use Rattle.run.specs.Fit.{cargo_fits, totals_at, TotalsFit};
 ghost use Rattle.step.specs.Algorithm.{completed, turn_of, stored_by, barrier_received, taken_in, record_received};
 
-use crate::Stepped;
+use crate::{COUNT_FULL, DONE, OUTPUT_FULL, SNAPSHOT_COMPLETE, Stepped};
 use channel::{Cargo, Channel};
 use job::Job;
 use run::Run;
@@ -18,17 +18,19 @@ pub fn complete(job: Job, mut run: Run) -> Stepped
     requires { JobSized job }
     ensures { result ≡ completed job run }
 {
-    let stored = run.stored;
-    if (0 < run.under_way) & outputs::all_stored(job, stored) {
+    if 0 < run.under_way && outputs::all_stored(job, run.stored) {
         let half = run.half;
         run.last = half;
         run.complete = true;
         run.half = [Totals::none(); 16];
         run.stored = [0; 16];
         run.under_way = 0;
-        return Stepped { run, answer: 20 };
+        return Stepped {
+            run,
+            answer: SNAPSHOT_COMPLETE,
+        };
     }
-    Stepped { run, answer: 0 }
+    Stepped { run, answer: DONE }
 }
 
 // Which of those under way a task stores next that has stored so many.
@@ -37,12 +39,10 @@ fn turn(stored: u8, under: u8) -> u8
     ensures { (result ≡ turn_of stored under) × (result < 255) }
 {
     if stored < under {
-        return stored;
+        stored
+    } else {
+        under.saturating_sub(1)
     }
-    if under == 0 {
-        return 0;
-    }
-    under - 1
 }
 
 // The task stores its totals and puts a barrier on every output.
@@ -51,13 +51,9 @@ pub fn store(job: Job, mut run: Run, t: usize) -> Run
     requires { (t < 16) × Sends job }
     ensures { result ≡ stored_by job run t }
 {
-    let state = run.live[t];
-    run.half[t] = state;
-    let next = turn(run.stored[t], run.under_way);
-    run.stored[t] = next + 1;
-    let held = run.channels;
-    let put = outputs::put_all(job, t, Cargo::Barrier, held);
-    run.channels = put;
+    run.half[t] = run.live[t];
+    run.stored[t] = turn(run.stored[t], run.under_way) + 1;
+    run.channels = outputs::put_all(job, t, Cargo::Barrier, run.channels);
     run
 }
 
@@ -67,22 +63,19 @@ pub fn receive_barrier(job: Job, mut run: Run, t: usize, c: usize, rest: Channel
     requires { (t < 16) × (c < 32) × Sends job }
     ensures { result ≡ barrier_received job run t c rest }
 {
-    let held = run.channels;
     let mut marked = run.marked;
     marked[c] = true;
-    if outputs::parts::all_marked(&job.to, &marked, job.channels, t) {
-        if outputs::some_full(job, held, t) {
-            return Stepped { run, answer: 14 };
+    if outputs::parts::all_marked(&job, &marked, t) {
+        if outputs::some_full(job, &run.channels, t) {
+            return Stepped::refused(run, OUTPUT_FULL);
         }
-        let clear = outputs::unmark(job, marked, t);
-        run.marked = clear;
+        run.marked = outputs::unmark(job, marked, t);
         run.channels[c] = rest;
-        let next = store(job, run, t);
-        return complete(job, next);
+        return complete(job, store(job, run, t));
     }
     run.marked = marked;
     run.channels[c] = rest;
-    Stepped { run, answer: 0 }
+    Stepped { run, answer: DONE }
 }
 
 // The record updates the task's totals, then is sent by the kind's rule.
@@ -91,17 +84,13 @@ pub fn take_in(job: Job, mut run: Run, t: usize, got: Record) -> Run
     requires { (t < 16) × Sends job × (cargo_fits (Cargo.Record got) ≡ true) × Room (totals_at run.live t) }
     ensures { result ≡ taken_in job run t got }
 {
-    let totals = run.live[t];
-    let now = totals.with(got.value);
-    run.live[t] = now;
-    let held = run.channels;
-    let next = outputs::put_all(job, t, Cargo::Record(got), held);
-    run.channels = next;
+    run.live[t] = run.live[t].with(got.value);
+    run.channels = outputs::put_all(job, t, Cargo::Record(got), run.channels);
     run
 }
 
 // The record at the head of channel `c` is received by the task `t`.
-#[tactic(auto, using(crate::proofs::Rooms::has_room), unfolding(crate::specs::Algorithm::record_received))]
+#[tactic(auto, unfolding(crate::specs::Algorithm::record_received))]
 pub fn receive_record(
     job: Job,
     mut run: Run,
@@ -113,18 +102,15 @@ pub fn receive_record(
     requires { (t < 16) × (c < 32) × Sends job × (cargo_fits (Cargo.Record got) ≡ true) × TotalsFit job t (totals_at run.live t) }
     ensures { result ≡ record_received job run t c got rest }
 {
-    let held = run.channels;
-    if outputs::some_full(job, held, t) {
-        return Stepped { run, answer: 14 };
+    if outputs::some_full(job, &run.channels, t) {
+        return Stepped::refused(run, OUTPUT_FULL);
     }
-    let totals = run.live[t];
-    if 1048576 <= totals.count {
-        return Stepped { run, answer: 17 };
+    if 1048576 <= run.live[t].count {
+        return Stepped::refused(run, COUNT_FULL);
     }
     run.channels[c] = rest;
-    let next = take_in(job, run, t, got);
     Stepped {
-        run: next,
-        answer: 0,
+        run: take_in(job, run, t, got),
+        answer: DONE,
     }
 }

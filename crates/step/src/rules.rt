@@ -7,44 +7,36 @@ ghost use Rattle.job.specs.Fits.{Sends, JobFits};
 ghost use Rattle.run.specs.Fit.{Fits};
 ghost use Rattle.step.specs.Step.{is_no_source, delivered, next_record, source_read, barrier_sent, begun, last_or_none, cut_off};
 
-use crate::{Stepped, algorithm};
-use channel::{Cargo, Channel};
-use job::Job;
-use job::sends::record_at;
+use crate::{
+    CHANNEL_BLOCKED, DONE, NO_SUCH_STEP, NOTHING_THERE, OUTPUT_FULL, Stepped, UNDER_WAY_ALREADY,
+    algorithm,
+};
+use channel::{Cargo, TAKEN};
+use job::{Job, Records};
+use kinds::SOURCE;
 use run::Run;
-use tally::{Record, Totals};
+use tally::Totals;
 
 // The step that delivers the head of channel `c`.
-#[tactic(auto, using(crate::proofs::Sources::opened, crate::proofs::Sources::given, crate::proofs::Sources::not_given, crate::proofs::Sources::head_fits), unfolding(crate::specs::Step::delivered))]
+#[tactic(auto, using(crate::proofs::Sources::not_given), unfolding(crate::specs::Step::delivered))]
 pub fn deliver(job: Job, run: Run, c: usize) -> Stepped
     requires { (c < 32) × Sends job × Fits job run }
     ensures { result ≡ delivered job run c }
 {
     if job.channels <= c {
-        return Stepped { run, answer: 11 };
+        return Stepped::refused(run, NO_SUCH_STEP);
     }
     if run.marked[c] {
-        return Stepped { run, answer: 12 };
+        return Stepped::refused(run, CHANNEL_BLOCKED);
     }
-    let ch = run.channels[c];
-    let got = ch.taken();
-    if got.answer == 0 {
-        let t = job.to[c] as usize;
-        let item = got.item;
-        let cargo = item.cargo;
-        let rest = got.channel;
-        match cargo {
-            Cargo::Barrier => {
-                return algorithm::receive_barrier(job, run, t, c, rest);
-            }
-            Cargo::Record(r) => {
-                return algorithm::receive_record(job, run, t, c, r, rest);
-            }
-        }
+    let got = run.channels[c].taken();
+    if got.answer != TAKEN {
+        return Stepped::refused(run, got.answer);
     }
-    Stepped {
-        run,
-        answer: got.answer,
+    let t = usize::from(job.to[c]);
+    match got.item.cargo {
+        Cargo::Barrier => algorithm::receive_barrier(job, run, t, c, got.channel),
+        Cargo::Record(r) => algorithm::receive_record(job, run, t, c, r, got.channel),
     }
 }
 
@@ -53,41 +45,30 @@ fn is_no_source(job: Job, t: usize) -> bool
     requires { t < 16 }
     ensures { result ≡ is_no_source job t }
 {
-    (job.tasks <= t) | (job.kinds[t] != 0)
-}
-
-#[tactic(auto, using(crate::proofs::Sources::not_negative))]
-fn natural(x: i32) -> u32
-    requires { le_z (pos 0) x ≡ true }
-    ensures { result ≡ nat_abs x }
-{
-    x as u32
+    job.tasks <= t || job.kinds[t] != SOURCE
 }
 
 // Source `t` reads its next record.
-#[tactic(auto, using(crate::proofs::Sources::source_is, crate::proofs::Lent::record_fits, crate::proofs::Lent::inside_part, crate::proofs::Lent::part_short, crate::proofs::Rooms::has_room), unfolding(crate::specs::Step::source_read, crate::specs::Step::next_record))]
-pub fn read(job: Job, cylinders: &[i32], values: &[i32], run: Run, t: usize) -> Stepped
-    requires { (t < 16) × JobFits job (length cylinders.now) × Fits job run × RecordsFit cylinders.now values.now }
-    ensures { result ≡ source_read job cylinders.now values.now run t }
+#[tactic(auto, unfolding(crate::specs::Step::source_read, crate::specs::Step::next_record))]
+pub fn read(job: Job, records: &Records, run: Run, t: usize) -> Stepped
+    requires { (t < 16) × JobFits job (length records.now.cylinders.now) × Fits job run × RecordsFit records.now.cylinders.now records.now.values.now }
+    ensures { result ≡ source_read job records.now.cylinders.now records.now.values.now run t }
 {
     if is_no_source(job, t) {
-        return Stepped { run, answer: 11 };
+        return Stepped::refused(run, NO_SUCH_STEP);
     }
-    let totals = run.live[t];
-    let length = natural(job.b[t]);
-    if length <= totals.count {
-        return Stepped { run, answer: 13 };
+    let offset = run.live[t].count;
+    if job.b[t].unsigned_abs() <= offset {
+        return Stepped::refused(run, NOTHING_THERE);
     }
-    let held = run.channels;
-    if outputs::some_full(job, held, t) {
-        return Stepped { run, answer: 14 };
+    if outputs::some_full(job, &run.channels, t) {
+        return Stepped::refused(run, OUTPUT_FULL);
     }
-    let start = natural(job.a[t]) as usize;
-    let got = record_at(cylinders, values, start + totals.count as usize);
-    let next = algorithm::take_in(job, run, t, got);
+    let start = job.a[t].unsigned_abs();
+    let got = records.at(start as usize + offset as usize);
     Stepped {
-        run: next,
-        answer: 0,
+        run: algorithm::take_in(job, run, t, got),
+        answer: DONE,
     }
 }
 
@@ -98,19 +79,16 @@ pub fn send_barrier(job: Job, mut run: Run, t: usize) -> Stepped
     ensures { result ≡ barrier_sent job run t }
 {
     if is_no_source(job, t) {
-        return Stepped { run, answer: 11 };
+        return Stepped::refused(run, NO_SUCH_STEP);
     }
-    let waits = run.waiting[t];
-    if waits == 0 {
-        return Stepped { run, answer: 13 };
+    if run.waiting[t] == 0 {
+        return Stepped::refused(run, NOTHING_THERE);
     }
-    let held = run.channels;
-    if outputs::some_full(job, held, t) {
-        return Stepped { run, answer: 14 };
+    if outputs::some_full(job, &run.channels, t) {
+        return Stepped::refused(run, OUTPUT_FULL);
     }
-    run.waiting[t] = waits - 1;
-    let next = algorithm::store(job, run, t);
-    algorithm::complete(job, next)
+    run.waiting[t] -= 1;
+    algorithm::complete(job, algorithm::store(job, run, t))
 }
 
 // A snapshot begins.
@@ -120,15 +98,13 @@ pub fn begin(job: Job, mut run: Run) -> Stepped
     ensures { result ≡ begun job run }
 {
     if 1 <= run.under_way {
-        return Stepped { run, answer: 15 };
+        return Stepped::refused(run, UNDER_WAY_ALREADY);
     }
-    let waiting = run.waiting;
-    let next = outputs::sources_wait(job, run.under_way, waiting);
-    run.waiting = next;
+    run.waiting = outputs::sources_wait(job, run.under_way, run.waiting);
     run.half = [Totals::none(); 16];
     run.stored = [0; 16];
     run.under_way = 1;
-    Stepped { run, answer: 0 }
+    Stepped { run, answer: DONE }
 }
 
 // The totals of the last complete snapshot, or all zero if there is none.
@@ -136,10 +112,10 @@ fn last_or_none(run: Run) -> [Totals; 16]
     ensures { result ≡ last_or_none run }
 {
     if run.complete {
-        let last = run.last;
-        return last;
+        run.last
+    } else {
+        [Totals::none(); 16]
     }
-    [Totals::none(); 16]
 }
 
 // All is emptied but the last complete snapshot, whose totals become the live ones.
@@ -149,9 +125,10 @@ pub fn cut(run: Run) -> Run
 {
     let live = last_or_none(run);
     let last = run.last;
-    let mut next = Run::fresh();
-    next.live = live;
-    next.last = last;
-    next.complete = run.complete;
-    next
+    Run {
+        live,
+        last,
+        complete: run.complete,
+        ..Run::fresh()
+    }
 }

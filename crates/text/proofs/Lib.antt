@@ -4,7 +4,6 @@ pub mod OneLine
 pub mod Unique
 pub mod Forms
 pub mod Columns
-pub mod Ints
 pub mod Exact
+pub mod Parts
 pub mod Whole
-pub mod Tested

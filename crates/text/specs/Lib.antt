@@ -2,3 +2,4 @@
 pub mod Texts
 pub mod Outcome
 pub mod Says
+pub mod Laws

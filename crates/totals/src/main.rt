@@ -1,30 +1,14 @@
 // Reads a station's text from standard input and prints a table of totals (document 01).
 #![tactic(auto)]
 
-ghost use Rattle.std.specs.Prelude.{◌≤◌, IfOk, length};
-
 use std::io;
-use std::io::{Print, Read};
-
-// Reads until the text is full or the input ends, and answers how many bytes it put at the start of the text.
-fn read_full<R: Read>(reader: &mut R, text: &mut [u8]) -> io::Result<usize>
-    ensures { IfOk result (λ n. n ≤ length text.new) }
-{
-    let mut done = 0;
-    while done < text.len() {
-        let n = reader.read(&mut text[done..])?;
-        if n == 0 {
-            break;
-        }
-        done += n;
-    }
-    Ok(done)
-}
+use std::io::Print;
 
 // One byte more than a text may have is read, so that a longer one is seen, and no more.
+// Of what the host gives and takes no contract can speak, so no function of a library reads and writes.
 fn main(rt: HostRuntime) -> io::Result<()> {
     let mut text = [0u8; 65537];
-    let n = read_full(&mut rt.stdin(), &mut text)?;
+    let n = table::read_full(&mut rt.stdin(), &mut text)?;
     let mut out = table::buffer();
     let length = table::print(&text[..n], false, &mut out);
     rt.stdout().write_all(&out[..length])

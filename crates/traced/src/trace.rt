@@ -1,11 +1,12 @@
 // The rows of `trace`: each step with its answer, what stands after the steps, what stands after the drain.
 ghost use Rattle.std.specs.Prelude.{◌≡◌, ◌++◌, ◌≤◌, ◌+◌, ◌*◌, length};
-ghost use Rattle.job.specs.Columns.{columns};
+ghost use Rattle.job.specs.Columns.{columns_of};
 ghost use Rattle.traced.specs.Lines.{Writes};
 ghost use Rattle.traced.specs.Traces.{step_word, count_row, step_rows, shown_of, state_of, after_steps, after_drain};
 
 use crate::lines::put_lines;
 use drain::Drained;
+use job::Lent;
 use lists::Listed;
 use rows::put_row;
 use run::Run;
@@ -16,7 +17,7 @@ fn put_counts(out: &mut [u8], at: usize, word: &[u8], x: u32, y: u32, z: u32) ->
     requires { (length word.now ≤ 5) × (at + 128 ≤ length out.old) }
     ensures { Writes 128 out.old at (count_row word.now x y z) out.new result }
 {
-    let numbers = [x as i64, y as i64, z as i64, 0i64, 0i64];
+    let numbers = [i64::from(x), i64::from(y), i64::from(z), 0, 0];
     put_row(out, at, word, &numbers)
 }
 
@@ -24,39 +25,21 @@ fn put_step(out: &mut [u8], at: usize, number: u16, answer: u8) -> usize
     requires { at + 128 ≤ length out.old }
     ensures { Writes 128 out.old at (count_row step_word number answer 0) out.new result }
 {
-    put_counts(out, at, b"step", number as u32, answer as u32, 0)
+    put_counts(out, at, b"step", u32::from(number), u32::from(answer), 0)
 }
 
 // Each step of the list by itself, from a fresh run on.
 #[tactic(auto, using(rows::proofs::Putting::put_none, crate::proofs::Writing::then, crate::proofs::Stepping::run_more, crate::proofs::Stepping::rows_more), unfolding(crate::specs::Traces::run_after, crate::specs::Traces::step_rows))]
-pub fn put_steps(
-    kinds: &[i32],
-    a: &[i32],
-    b: &[i32],
-    from: &[i32],
-    to: &[i32],
-    cylinders: &[i32],
-    values: &[i32],
-    numbers: &[u16],
-    out: &mut [u8],
-    at: usize,
-) -> usize
+pub fn put_steps(lent: &Lent, numbers: &[u16], out: &mut [u8], at: usize) -> usize
     requires { (length numbers.now ≤ 5461) × (at + 128 * 5461 ≤ length out.old) }
-    ensures { Writes (128 * 5461) out.old at
-        (step_rows
-        (columns kinds.now a.now b.now «from».now «to».now
-        cylinders.now values.now)
-        numbers.now (length numbers.now)) out.new result }
+    ensures { Writes (128 * 5461) out.old at (step_rows (columns_of lent.now) numbers.now (length numbers.now)) out.new result }
 {
     let mut run = station::fresh();
     let mut next = at;
-    let mut k: usize = 0;
-    while k < numbers.len() {
-        let n = numbers[k];
-        let s = station::step(run, kinds, a, b, from, to, cylinders, values, n);
+    for n in numbers {
+        let s = station::step(run, lent, *n);
         run = s.run;
-        next = put_step(out, next, n, s.answer);
-        k += 1;
+        next = put_step(out, next, *n, s.answer);
     }
     next
 }
@@ -65,10 +48,7 @@ pub fn put_steps(
 fn shown(complete: bool, tasks: usize) -> usize
     ensures { result ≡ shown_of complete tasks }
 {
-    if complete {
-        return tasks;
-    }
-    0
+    if complete { tasks } else { 0 }
 }
 
 // A row, then the last complete snapshot, if there is one, and the live totals.
@@ -129,7 +109,7 @@ pub fn put_drain(out: &mut [u8], at: usize, tasks: usize, d: Drained) -> usize
         out,
         at,
         b"drain",
-        d.answer as u32,
+        u32::from(d.answer),
         d.steps,
         0,
         b"last,",

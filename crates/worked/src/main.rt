@@ -1,293 +1,166 @@
 // Document 01's worked station, step by step, and runs from elsewhere. What it prints stands in the file `stdout`, beside the paper's numbers.
 #![tactic(auto)]
 
-ghost use Rattle.std.specs.Prelude.{◌<◌};
-
 use channel::{Cargo, Channel, Item};
-use drain::Drained;
-use lists::Listed;
+use job::{Lent, Records};
 use run::Run;
 use std::io;
-use std::io::Print;
-use step::Stepped;
 use tally::{Record, Totals};
 
-fn say(rt: &impl Print, word: &[u8]) -> io::Result<()> {
-    rt.write_all(word)
-}
+// The paper's five tasks, five channels and five records.
+const KINDS: [i32; 5] = [0, 0, 3, 2, 1];
 
-fn number(rt: &impl Print, n: u64) -> io::Result<()> {
-    print!(rt; " {n}")
-}
+const A: [i32; 5] = [0, 3, 1, -10, 0];
 
-// What stands behind the sign of a number below 0.
-fn size(z: i64) -> u64 {
-    if z <= -9223372036854775807 {
-        return 0;
+const B: [i32; 5] = [3, 2, 0, 10, 0];
+
+const FROM: [i32; 5] = [0, 1, 2, 0, 3];
+
+const TO: [i32; 5] = [2, 2, 3, 4, 4];
+
+const CYLINDERS: [i32; 5] = [1, 2, 3, 1, 4];
+
+const VALUES: [i32; 5] = [7, -5, 40, -3, 9];
+
+// The paper's 24 steps.
+const STEPS: [u16; 24] = [
+    32, 64, 48, 32, 0, 0, 0, 33, 33, 49, 1, 1, 1, 0, 3, 3, 2, 2, 2, 2, 4, 4, 4, 4,
+];
+
+fn lent() -> Lent<'static> {
+    let records = Records {
+        cylinders: &CYLINDERS,
+        values: &VALUES,
+    };
+    Lent {
+        kinds: &KINDS,
+        a: &A,
+        b: &B,
+        from: &FROM,
+        to: &TO,
+        records,
     }
-    if 0 <= z {
-        return 0;
-    }
-    (0 - z) as u64
-}
-
-// A sum or a value: the sign first.
-fn signed(rt: &impl Print, z: i64) -> io::Result<()> {
-    if z < 0 {
-        let n = size(z);
-        return print!(rt; " -{n}");
-    }
-    number(rt, natural(z))
-}
-
-fn natural(z: i64) -> u64 {
-    if z < 0 {
-        return 0;
-    }
-    z as u64
-}
-
-fn totals(rt: &impl Print, x: Totals) -> io::Result<()> {
-    number(rt, x.count as u64)?;
-    signed(rt, x.sum)?;
-    signed(rt, x.least as i64)?;
-    signed(rt, x.greatest as i64)?;
-    say(rt, b"\n")
 }
 
 // The totals of the station's five tasks.
 fn five(rt: &impl Print, l: [Totals; 16]) -> io::Result<()> {
-    let t0 = l[0];
-    let t1 = l[1];
-    let t2 = l[2];
-    let t3 = l[3];
-    let t4 = l[4];
-    totals(rt, t0)?;
-    totals(rt, t1)?;
-    totals(rt, t2)?;
-    totals(rt, t3)?;
-    totals(rt, t4)
-}
-
-fn one_step(run: Run, n: u16) -> Stepped {
-    let kinds = [0i32, 0, 3, 2, 1];
-    let a = [0i32, 3, 1, -10, 0];
-    let b = [3i32, 2, 0, 10, 0];
-    let from = [0i32, 1, 2, 0, 3];
-    let to = [2i32, 2, 3, 4, 4];
-    let cylinders = [1i32, 2, 3, 1, 4];
-    let values = [7i32, -5, 40, -3, 9];
-    station::step(run, &kinds, &a, &b, &from, &to, &cylinders, &values, n)
-}
-
-fn listed(run: Run, numbers: &[u16]) -> Listed {
-    let kinds = [0i32, 0, 3, 2, 1];
-    let a = [0i32, 3, 1, -10, 0];
-    let b = [3i32, 2, 0, 10, 0];
-    let from = [0i32, 1, 2, 0, 3];
-    let to = [2i32, 2, 3, 4, 4];
-    let cylinders = [1i32, 2, 3, 1, 4];
-    let values = [7i32, -5, 40, -3, 9];
-    station::steps(
-        run, &kinds, &a, &b, &from, &to, &cylinders, &values, numbers,
-    )
-}
-
-fn drained(run: Run, limit: u32) -> Drained {
-    let kinds = [0i32, 0, 3, 2, 1];
-    let a = [0i32, 3, 1, -10, 0];
-    let b = [3i32, 2, 0, 10, 0];
-    let from = [0i32, 1, 2, 0, 3];
-    let to = [2i32, 2, 3, 4, 4];
-    let cylinders = [1i32, 2, 3, 1, 4];
-    let values = [7i32, -5, 40, -3, 9];
-    station::drain(run, &kinds, &a, &b, &from, &to, &cylinders, &values, limit)
+    for x in &l[..5] {
+        println!(rt; " {} {} {} {}", x.count, x.sum, x.least, x.greatest)?;
+    }
+    Ok(())
 }
 
 fn drain_and_say(rt: &impl Print, run: Run, limit: u32) -> io::Result<()> {
-    let d = drained(run, limit);
-    say(rt, b"drain")?;
-    number(rt, d.answer as u64)?;
-    number(rt, d.steps as u64)?;
-    say(rt, b"\n")
-}
-
-fn say_step(rt: &impl Print, n: u16, answer: u8) -> io::Result<()> {
-    say(rt, b"step")?;
-    number(rt, n as u64)?;
-    number(rt, answer as u64)?;
-    say(rt, b"\n")
+    let d = station::drain(run, &lent(), limit);
+    println!(rt; "drain {} {}", d.answer, d.steps)
 }
 
 // The answers of the steps one by one.
 fn step_by_step(rt: &impl Print, numbers: &[u16]) -> io::Result<Run> {
     let mut run = station::fresh();
-    let mut i: usize = 0;
-    while i < numbers.len() {
-        let n = numbers[i];
-        let s = one_step(run, n);
+    for n in numbers {
+        let s = station::step(run, &lent(), *n);
         run = s.run;
-        say_step(rt, n, s.answer)?;
-        i += 1;
+        println!(rt; "step {n} {}", s.answer)?;
     }
     Ok(run)
 }
 
-// Document 01's 24 steps.
-fn paper_steps() -> [u16; 24] {
-    [
-        32u16, 64, 48, 32, 0, 0, 0, 33, 33, 49, 1, 1, 1, 0, 3, 3, 2, 2, 2, 2, 4, 4, 4, 4,
-    ]
-}
-
 fn worked(rt: &impl Print) -> io::Result<()> {
-    let numbers = paper_steps();
-    let run = step_by_step(rt, &numbers)?;
-    let l = listed(station::fresh(), &numbers);
-    say(rt, b"list")?;
-    number(rt, l.answer as u64)?;
-    number(rt, l.done as u64)?;
-    number(rt, l.refused as u64)?;
-    say(rt, b"\nsnapshot\n")?;
-    let last = run.last;
-    five(rt, last)?;
+    let run = step_by_step(rt, &STEPS)?;
+    let l = station::steps(station::fresh(), &lent(), &STEPS);
+    println!(rt; "list {} {} {}", l.answer, l.done, l.refused)?;
+    println!(rt; "snapshot")?;
+    five(rt, run.last)?;
     drain_and_say(rt, run, 67108864)?;
-    let cut = one_step(run, 65);
+    let cut = station::step(run, &lent(), 65);
     drain_and_say(rt, cut.run, 67108864)?;
     drain_and_say(rt, station::fresh(), 67108864)?;
     drain_and_say(rt, station::fresh(), 21)?;
-    let d = drained(run, 67108864);
-    say(rt, b"totals\n")?;
-    let live = d.run;
-    let all = live.live;
-    five(rt, all)
+    let d = station::drain(run, &lent(), 67108864);
+    println!(rt; "totals")?;
+    five(rt, d.run.live)
 }
 
 // The answer of a step that no job has: 16 where the run does not fit, else 11.
-fn fit_of(rt: &impl Print, name: &[u8], run: Run) -> io::Result<()> {
-    let s = one_step(run, 66);
-    say(rt, name)?;
-    number(rt, s.answer as u64)?;
-    say(rt, b"\n")
+fn fit_of(rt: &impl Print, name: &str, run: Run) -> io::Result<()> {
+    let s = station::step(run, &lent(), 66);
+    println!(rt; "{name} {}", s.answer)
 }
 
 fn with_item(cylinder: u8, value: i32) -> Channel {
     let item = Item {
         cargo: Cargo::Record(Record { cylinder, value }),
     };
-    let got = Channel::empty().added(item);
-    got.channel
+    Channel::empty().added(item).channel
+}
+
+// A fresh run, and what is set in it.
+fn fresh_but<F: FnOnce(&mut Run)>(set: F) -> Run
+    requires { F.IsAlwaysCallable set }
+{
+    let mut run = station::fresh();
+    set(&mut run);
+    run
+}
+
+fn fit_with<F: FnOnce(&mut Run)>(rt: &impl Print, name: &str, set: F) -> io::Result<()>
+    requires { F.IsAlwaysCallable set }
+{
+    fit_of(rt, name, fresh_but(set))
 }
 
 fn channels_from_elsewhere(rt: &impl Print) -> io::Result<()> {
-    let mut run = station::fresh();
-    let ch = with_item(21, 0);
-    run.channels[0] = ch;
-    fit_of(rt, b"cylinder-21", run)?;
-    let mut none = station::fresh();
-    let zero = with_item(0, 0);
-    none.channels[0] = zero;
-    fit_of(rt, b"cylinder-0", none)?;
-    let mut nine = station::fresh();
-    let mut long = Channel::empty();
-    long.count = 9;
-    nine.channels[0] = long;
-    fit_of(rt, b"nine-items", nine)?;
-    let mut other = station::fresh();
     let fine = with_item(1, 7);
-    other.channels[5] = fine;
-    fit_of(rt, b"channel-5", other)?;
-    let mut mark = station::fresh();
-    mark.marked[5] = true;
-    fit_of(rt, b"mark-5", mark)?;
-    let mut ready = station::fresh();
-    ready.channels[4] = fine;
-    fit_of(rt, b"record-in-4", ready)?;
+    let long = Channel {
+        count: 9,
+        ..Channel::empty()
+    };
+    fit_with(rt, "cylinder-21", |run| run.channels[0] = with_item(21, 0))?;
+    fit_with(rt, "cylinder-0", |run| run.channels[0] = with_item(0, 0))?;
+    fit_with(rt, "nine-items", |run| run.channels[0] = long)?;
+    fit_with(rt, "channel-5", |run| run.channels[5] = fine)?;
+    fit_with(rt, "mark-5", |run| run.marked[5] = true)?;
+    let ready = fresh_but(|run| run.channels[4] = fine);
+    fit_of(rt, "record-in-4", ready)?;
     drain_and_say(rt, ready, 67108864)?;
     let added = long.added(Item::barrier());
     let taken = long.taken();
-    say(rt, b"claims-nine")?;
-    number(rt, added.answer as u64)?;
-    number(rt, taken.answer as u64)?;
-    say(rt, b"\n")
+    println!(rt; "claims-nine {} {}", added.answer, taken.answer)
 }
 
 fn tasks_from_elsewhere(rt: &impl Print) -> io::Result<()> {
-    let mut wait = station::fresh();
-    wait.waiting[2] = 1;
-    fit_of(rt, b"waits-at-2", wait)?;
-    let mut far = station::fresh();
-    far.stored[5] = 1;
-    fit_of(rt, b"stored-5", far)?;
-    let mut one = Totals::none();
-    one.count = 1;
-    let mut extra = station::fresh();
-    extra.last[5] = one;
-    fit_of(rt, b"totals-5", extra)?;
-    let mut many = station::fresh();
-    let mut four = Totals::none();
-    four.count = 4;
-    many.live[0] = four;
-    fit_of(rt, b"offset-4-of-3", many)?;
-    let mut sum = station::fresh();
-    let mut heavy = Totals::none();
-    heavy.sum = 1;
-    sum.half[2] = heavy;
-    fit_of(rt, b"sum-of-none", sum)?;
-    let mut least = station::fresh();
-    let mut low = Totals::none();
-    low.least = -1;
-    least.live[2] = low;
-    fit_of(rt, b"least-of-none", least)
+    fit_with(rt, "waits-at-2", |run| run.waiting[2] = 1)?;
+    fit_with(rt, "stored-5", |run| run.stored[5] = 1)?;
+    fit_with(rt, "totals-5", |run| run.last[5].count = 1)?;
+    fit_with(rt, "offset-4-of-3", |run| run.live[0].count = 4)?;
+    fit_with(rt, "sum-of-none", |run| run.half[2].sum = 1)?;
+    fit_with(rt, "least-of-none", |run| run.live[2].least = -1)
 }
 
 // One snapshot at most is under way: two under way, two barriers waiting at a source, or a task that stored two do not fit.
 fn twos_from_elsewhere(rt: &impl Print) -> io::Result<()> {
-    let mut begun = station::fresh();
-    begun.under_way = 2;
-    fit_of(rt, b"two-under-way", begun)?;
-    let mut wait = station::fresh();
-    wait.waiting[0] = 1;
-    fit_of(rt, b"one-waits-at-0", wait)?;
-    wait.waiting[0] = 2;
-    fit_of(rt, b"two-wait-at-0", wait)?;
-    let mut done = station::fresh();
-    done.stored[2] = 1;
-    fit_of(rt, b"stored-once", done)?;
-    done.stored[2] = 2;
-    fit_of(rt, b"stored-twice", done)
-}
-
-fn totals_at_2(rt: &impl Print, name: &[u8], x: Totals) -> io::Result<()> {
-    let mut run = station::fresh();
-    run.live[2] = x;
-    fit_of(rt, name, run)
+    fit_with(rt, "two-under-way", |run| run.under_way = 2)?;
+    fit_with(rt, "one-waits-at-0", |run| run.waiting[0] = 1)?;
+    fit_with(rt, "two-wait-at-0", |run| run.waiting[0] = 2)?;
+    fit_with(rt, "stored-once", |run| run.stored[2] = 1)?;
+    fit_with(rt, "stored-twice", |run| run.stored[2] = 2)
 }
 
 // The greatest count fits, one more does not; nor does a greatest value of nothing.
 fn totals_from_elsewhere(rt: &impl Print) -> io::Result<()> {
-    let mut most = Totals::none();
-    most.count = 1048576;
-    totals_at_2(rt, b"count-1048576", most)?;
-    let mut many = Totals::none();
-    many.count = 1048577;
-    totals_at_2(rt, b"count-1048577", many)?;
-    let mut high = Totals::none();
-    high.greatest = 1;
-    totals_at_2(rt, b"greatest-of-none", high)
+    fit_with(rt, "count-1048576", |run| run.live[2].count = 1048576)?;
+    fit_with(rt, "count-1048577", |run| run.live[2].count = 1048577)?;
+    fit_with(rt, "greatest-of-none", |run| run.live[2].greatest = 1)
 }
 
 // Runs that fit, though no list of steps leads to them: a stray barrier, and a snapshot that every task has stored already.
 fn strays(rt: &impl Print) -> io::Result<()> {
-    let mut stray = station::fresh();
-    let got = Channel::empty().added(Item::barrier());
-    let ch = got.channel;
-    stray.channels[2] = ch;
-    fit_of(rt, b"stray-barrier", stray)?;
+    let stray = fresh_but(|run| run.channels[2] = Channel::empty().added(Item::barrier()).channel);
+    fit_of(rt, "stray-barrier", stray)?;
     drain_and_say(rt, stray, 67108864)?;
-    let mut stuck = station::fresh();
-    stuck.under_way = 1;
-    fit_of(rt, b"under-way-alone", stuck)?;
+    let stuck = fresh_but(|run| run.under_way = 1);
+    fit_of(rt, "under-way-alone", stuck)?;
     drain_and_say(rt, stuck, 67108864)
 }
 

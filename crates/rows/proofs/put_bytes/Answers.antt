@@ -1,17 +1,7 @@
--- One byte more is one place more of the text.
-use Rattle.std.proofs.Common.{refl, sym, ap, ◌∙◌, ◌+◌, arith, set, get_or, length-set}
-use Rattle.rows.proofs.Putting.{put_none, put_next}
+-- A part of the buffer is the bytes now, and the rest is as it was.
+use Rattle.std.proofs.Common.{refl, arith}
+use Rattle.rows.proofs.Putting.{put_part}
 use Rattle.rows.proofs.put_bytes.Goals as goal
 
-pub loop-i-init : goal.loop-i-init
-loop-i-init c = (omega arith, refl, sym (put_none c.args.out.now c.args.at))
-
-pub loop-i-preserved : goal.loop-i-preserved
-loop-i-preserved c =
-    let l = c.loop-i in
-    let w = c.args.bytes.now in (
-      omega arith,
-      simp length-set l.invariant.1,
-      ap (λ m. set m (c.args.at + l.i) (get_or w l.i 0)) l.invariant.2
-          ∙ put_next c.args.out.now c.args.at w l.i 0 (omega arith) (omega arith),
-    )
+pub returns : goal.returns
+returns c = (refl, put_part c.args.out.now c.args.at c.args.bytes.now _ _ c.copy_from_slice.ensures.after (omega arith))

@@ -4,10 +4,9 @@ use Rattle.drain.specs.Drains.{first_from}
 use Rattle.drain.specs.Ready.{possible_in}
 use Rattle.drain.proofs.search.find.Given as goal
 
-abbrev pub invariant-loop-i : goal.invariant-loop-i
-invariant-loop-i l =
-    (l.i ≤ 64) × (first_from (64 - l.i) l.i (possible_in l.codes l.heads l.counts l.received l.full l.to l.kinds l.b l.marked l.waiting l.channels l.tasks) ≡ first_from
-    64 0 (possible_in l.codes l.heads l.counts l.received l.full l.to l.kinds l.b l.marked l.waiting l.channels l.tasks))
+abbrev pub invariant-loop-n : goal.invariant-loop-n
+invariant-loop-n l =
+    (l.n ≤ 64) × (first_from (64 - l.n) l.n (possible_in l.job l.full l.flat) ≡ first_from 64 0 (possible_in l.job l.full l.flat))
 
-abbrev pub decreases-loop-i : goal.decreases-loop-i
-decreases-loop-i l = 64 - l.i
+abbrev pub decreases-loop-n : goal.decreases-loop-n
+decreases-loop-n l = 64 - l.n

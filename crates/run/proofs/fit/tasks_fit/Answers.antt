@@ -1,9 +1,8 @@
--- At the loop's end the tests of all sixteen places were made.
-use Rattle.std.proofs.Common.{arith, ap, ◌∙◌}
-use Rattle.job.specs.Tests.{every}
+use Rattle.std.proofs.Common.{rules, tests, refl}
 use Rattle.run.specs.Fit.{tasks_fit}
+use Rattle.job.proofs.Ranges.{all_over}
 use Rattle.run.proofs.fit.tasks_fit.Goals as goal
 
 pub returns : goal.returns
 unfolding tasks_fit
-returns c = c.loop-t.invariant.1 ∙ ap (every _) (omega arith)
+returns c = all_over _ _ _ _ _ c.all.ensures.ran refl (λ x b q k. search (rules, tests))

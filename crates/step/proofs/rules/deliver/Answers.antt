@@ -1,6 +1,7 @@
 -- What the head of the channel brings: the task that it comes to has room, and what it carries fits.
-use Rattle.std.proofs.Common.{arith, ◌∙◌}
+use Rattle.std.proofs.Common.{arith, ◌∙◌, ap}
 use Rattle.job.specs.Jobs.{to_of}
+use Rattle.step.specs.Algorithm.{barrier_received, record_received}
 use Rattle.step.proofs.Sources.{opened, given, head_fits}
 use Rattle.step.proofs.rules.deliver.Goals as goal
 
@@ -9,7 +10,8 @@ returns-in-Barrier c =
     let a = c.args in
     let got = c.taken-got in
     c.receive_barrier.ensures
-    ∙ given a.job a.run a.c got.result _ c.if-got-eq0.true c.in-Barrier.is
+    ∙ ap (λ t. barrier_received a.job a.run t a.c got.result.channel) c.from-t.ensures
+    ∙ given a.job a.run a.c got.result _ c.if-got-ne-TAKEN.false c.in-Barrier.is
     ∙ opened a.job a.run a.c got.result c.if-job-c.false c.if-run-c.false got.ensures
 
 pub receive_record-requires : goal.receive_record-requires
@@ -21,8 +23,8 @@ receive_record-requires c =
       omega (arith, l, z.few_tasks),
       c.requires.0,
       c.requires.1,
-      head_fits a.job a.run a.c got.result _ c.requires.0 c.requires.2 got.ensures c.if-got-eq0.true c.in-Record.is,
-      (c.requires.2.totals (to_of a.job a.c) l).live,
+      head_fits a.job a.run a.c got.result _ c.requires.0 c.requires.2 got.ensures c.if-got-ne-TAKEN.false c.in-Record.is,
+      rw c.from-t.ensures (c.requires.2.totals (to_of a.job a.c) l).live,
     )
 
 pub returns-in-Record : goal.returns-in-Record
@@ -30,5 +32,6 @@ returns-in-Record c =
     let a = c.args in
     let got = c.taken-got in
     c.receive_record.ensures
-    ∙ given a.job a.run a.c got.result _ c.if-got-eq0.true c.in-Record.is
+    ∙ ap (λ t. record_received a.job a.run t a.c c.in-Record.r got.result.channel) c.from-t.ensures
+    ∙ given a.job a.run a.c got.result _ c.if-got-ne-TAKEN.false c.in-Record.is
     ∙ opened a.job a.run a.c got.result c.if-job-c.false c.if-run-c.false got.ensures

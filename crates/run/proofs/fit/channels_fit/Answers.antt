@@ -1,0 +1,8 @@
+use Rattle.std.proofs.Common.{rules, tests, refl}
+use Rattle.run.specs.Fit.{channels_fit}
+use Rattle.job.proofs.Ranges.{all_over}
+use Rattle.run.proofs.fit.channels_fit.Goals as goal
+
+pub returns : goal.returns
+unfolding channels_fit
+returns c = all_over _ _ _ _ _ c.all.ensures.ran refl (λ x b q k. search (rules, tests))

@@ -1,9 +1,0 @@
--- The loop ends, since each turn leaves fewer numbers.
-use Rattle.std.proofs.Common.{length, ◌-◌, ◌≤◌}
-use Rattle.worked.proofs.step_by_step.Given as goal
-
-abbrev pub invariant-loop-i : goal.invariant-loop-i
-invariant-loop-i g l = l.i ≤ length l.numbers
-
-abbrev pub decreases-loop-i : goal.decreases-loop-i
-decreases-loop-i g l = length l.numbers - l.i
