@@ -5,7 +5,7 @@ use std::io;
 use std::io::Print;
 
 // One byte more than a text may have is read, so that a longer one is seen, and no more.
-// Of what the host gives and takes no contract can speak, so no function of a library reads and writes.
+// The library says nothing of what the host's own input holds and its output takes, so `main` reads and writes.
 fn main(rt: HostRuntime) -> io::Result<()> {
     let mut text = [0u8; 65537];
     let n = table::read_full(&mut rt.stdin(), &mut text)?;
