@@ -12,9 +12,9 @@ use Rattle.run.specs.Runs.{no_channel, with_channels}
 use Rattle.run.specs.Fit.{channel_at}
 use Rattle.outputs.proofs.Sending.{set_self}
 use Rattle.flat.specs.declared.Flat.TheInside.{Inside}
-use Rattle.flat.specs.Columns.{head_of, is_barrier, item_of, spot, item_in, channel_in, channels_in, ReadAs}
+use Rattle.flat.specs.Columns.{head_of, head_in, barrier_in, is_barrier, item_of, spot, item_in, channel_in, channels_in, ReadAs}
 use Rattle.flat.proofs.Tables.{length_table, get_or-table}
-use Rattle.flat.proofs.Rings.{barrier_there, barrier_is}
+use Rattle.flat.proofs.Rings.{head_at, barrier_there, barrier_is}
 
 module _ (f : Inside) {now : Run} (stands : with_channels (channels_in f.codes f.held f.heads f.counts) f.run ≡ now)
     (c : ℕ) (small : c < 32) where
@@ -27,10 +27,14 @@ module _ (f : Inside) {now : Run} (stands : with_channels (channels_in f.codes f
   unfolding channel_in
   count_seen = ap (λ (ch : Channel). ch.count) seen
 
+  pub barrier_in_seen : barrier_in f.codes f.heads c ≡ is_barrier (head_of (channel_at now c))
+  barrier_in_seen = barrier_is f.codes f.held f.heads f.counts c ∙ ap (λ ch. is_barrier (head_of ch)) seen
+
   pub barrier_seen : eqb (get_or f.codes (c * 8 + get_or f.heads c 0 % 8) 0) 0 ≡ is_barrier (head_of (channel_at now c))
-  barrier_seen =
-      barrier_there f.codes f.held f.heads f.counts c ∙ barrier_is f.codes f.held f.heads f.counts c
-      ∙ ap (λ ch. is_barrier (head_of ch)) seen
+  barrier_seen = barrier_there f.codes f.held f.heads f.counts c ∙ barrier_in_seen
+
+  pub head_seen : head_in f.codes f.held f.heads c ≡ head_of (channel_at now c)
+  head_seen = sym (head_at f.codes f.held f.heads f.counts c) ∙ ap head_of seen
 
   pub item_seen : (k : ℕ) → k < 8
       → item_of (get_or f.codes (spot c (get_or f.heads c 0) k) 0) (get_or f.held (spot c (get_or f.heads c 0) k) (pos 0))

@@ -152,6 +152,34 @@ module _ (codes : List ℕ) (held : List ℤ) (heads counts : List ℕ) (c : ℕ
   abbrev n : ℕ
   n = get_or counts c 0
 
+  -- ---- nothing is stored
+  pub unmoved : (x : Channel) → x ≡ channel_in codes held heads counts c → ReadAs (set (channels_in codes held heads counts) c x) codes
+      held heads counts
+  unfolding channels_in
+  unmoved x e = record {
+    laid = laid;
+    reads =
+        stored no_channel (channel_in codes held heads counts) (channel_in codes held heads counts) 32 c x small (sym e) (λ k l ne. refl);
+  }
+
+  pub takes_none_of_many : 8 < n
+      → ReadAs (set (channels_in codes held heads counts) c (without_head (channel_in codes held heads counts c)).channel)
+      codes held heads counts
+  unfolding channel_in
+  takes_none_of_many h = unmoved _ (too_many (channel_in codes held heads counts c) h)
+
+  pub takes_none : n ≡ 0
+      → ReadAs (set (channels_in codes held heads counts) c (without_head (channel_in codes held heads counts c)).channel)
+      codes held heads counts
+  unfolding channel_in
+  takes_none e = unmoved _ (empty (channel_in codes held heads counts c) e)
+
+  pub puts_none : 8 ≤ n → (item : Item)
+      → ReadAs (set (channels_in codes held heads counts) c (with_item (channel_in codes held heads counts c) item).channel)
+      codes held heads counts
+  unfolding channel_in
+  puts_none h item = unmoved _ (full (channel_in codes held heads counts c) h item)
+
   -- ---- the head of channel c is taken
   module _ (some : 1 ≤ n) (fits : n ≤ 8) where
     abbrev codes' : List ℕ

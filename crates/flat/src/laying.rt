@@ -1,13 +1,11 @@
 // A run laid out in columns: every channel with its head at place 0, and how many records each task has received.
-ghost use Rattle.std.specs.Prelude.{◌≡◌, ℕ, ◌*◌, ◌<◌, get_or, set, length};
+ghost use Rattle.std.specs.Prelude.{◌≡◌, ℕ, ◌*◌, ◌<◌, get_or, length};
 ghost use Rattle.channel.specs.Channels.{barrier};
-ghost use Rattle.run.specs.Runs.{with_channels};
-ghost use Rattle.flat.specs.Columns.{item_of, Tells};
+ghost use Rattle.flat.specs.Columns.{item_of, Laid, ReadAs, Tells};
 ghost use Rattle.flat.specs.Lays.{code_of, value_of, cargo_at, fill_to};
 
-use crate::{Flat, store};
+use crate::store;
 use channel::Channel;
-use run::Run;
 use tally::Totals;
 
 // The items of channel `c`.
@@ -27,46 +25,31 @@ fn lay_items(codes: &mut [u16; 256], held: &mut [i32; 256], c: usize, ch: Channe
     }
 }
 
-// How many records each task has received.
-#[tactic(auto, using(channel::proofs::Lists::counted, crate::proofs::Tables::one_more))]
-fn received_of(live: [Totals; 16]) -> [u32; 16]
-    ensures { Tells live result }
+// All channels.
+#[tactic(auto, using(channel::proofs::Lists::counted, crate::proofs::Tables::length_table, crate::proofs::LaidOut::each_more, crate::proofs::LaidOut::each_list, crate::proofs::LaidOut::laid_channel), unfolding(outputs::specs::Outputs::each_place, crate::specs::Columns::channels_in))]
+pub fn lay(
+    codes: &mut [u16; 256],
+    held: &mut [i32; 256],
+    heads: &mut [usize; 32],
+    counts: &mut [usize; 32],
+    channels: [Channel; 32],
+)
+    ensures { Laid codes.old held.old heads.old counts.old → ReadAs channels codes.new held.new heads.new counts.new }
 {
-    let mut received = [0; 16];
-    for t in 0..16 {
-        received[t] = live[t].count;
+    for c in 0..32 {
+        let ch = channels[c];
+        lay_items(codes, held, c, ch);
+        heads[c] = 0;
+        counts[c] = ch.count;
     }
-    received
 }
 
-impl Flat {
-    // The run laid out.
-    #[tactic(auto, using(crate::proofs::LaidOut::each_more), unfolding(outputs::specs::Outputs::each_place))]
-    pub fn of(run: Run) -> Flat
-        ensures { result ≡ run }
-    {
-        let channels = run.channels;
-        let mut flat = Flat {
-            codes: [0; 256],
-            held: [0; 256],
-            heads: [0; 32],
-            counts: [0; 32],
-            received: received_of(run.live),
-            run,
-        };
-        for c in 0..32 {
-            flat.lay(c, channels[c]);
-        }
-        flat
-    }
-
-    // Channel `c` is laid out.
-    fn lay(&mut self, c: usize, ch: Channel)
-        requires { c < 32 }
-        ensures { self.new ≡ with_channels (set self.old.channels c ch) self.old }
-    {
-        lay_items(&mut self.codes, &mut self.held, c, ch);
-        self.heads[c] = 0;
-        self.counts[c] = ch.count;
+// How many records each task has received.
+#[tactic(auto, using(channel::proofs::Lists::counted, crate::proofs::Tables::one_more))]
+pub fn lay_received(received: &mut [u32; 16], live: [Totals; 16])
+    ensures { length received.old ≡ 16 → Tells live received.new }
+{
+    for t in 0..16 {
+        received[t] = live[t].count;
     }
 }

@@ -1,39 +1,45 @@
-// A run read back from its columns.
+// Channels read back from their columns. What `back` is given is written over, place by place.
 ghost use Rattle.std.specs.Prelude.{◌≡◌, ◌<◌};
-ghost use Rattle.run.specs.Fit.{channel_at};
+ghost use Rattle.flat.specs.Columns.{channel_in, channels_in};
 
-use crate::Flat;
+use crate::item_at;
 use channel::{Channel, Item};
-use run::Run;
 
-impl Flat {
-    #[tactic(auto, using(crate::proofs::LaidOut::each_more), unfolding(outputs::specs::Outputs::each_place))]
-    fn channel(&self, c: usize) -> Channel
-        requires { c < 32 }
-        ensures { result ≡ channel_at self.now c }
-    {
-        let mut items = [Item::barrier(); 8];
-        for k in 0..8 {
-            items[k] = self.item(c, k);
-        }
-        Channel {
-            items,
-            count: self.counts[c],
-        }
+// Channel `c`, its items counted from its head.
+#[tactic(auto, using(crate::proofs::LaidOut::each_more), unfolding(outputs::specs::Outputs::each_place))]
+fn channel_at(
+    codes: &[u16; 256],
+    held: &[i32; 256],
+    heads: &[usize; 32],
+    counts: &[usize; 32],
+    c: usize,
+) -> Channel
+    requires { c < 32 }
+    ensures { result ≡ channel_in codes.now held.now heads.now counts.now c }
+{
+    let mut items = [Item::barrier(); 8];
+    for k in 0..8 {
+        items[k] = item_at(codes, held, heads, c, k);
     }
+    Channel {
+        items,
+        count: counts[c],
+    }
+}
 
-    // The run that it stands for.
-    #[tactic(auto, using(crate::proofs::LaidOut::each_more), unfolding(outputs::specs::Outputs::each_place))]
-    pub fn run(&self) -> Run
-        ensures { result ≡ self.now }
-    {
-        let mut channels = [Channel::empty(); 32];
-        for c in 0..32 {
-            channels[c] = self.channel(c);
-        }
-        Run {
-            channels,
-            ..self.run
-        }
+// All channels.
+#[tactic(auto, using(channel::proofs::Lists::counted, crate::proofs::LaidOut::each_more, crate::proofs::LaidOut::each_table), unfolding(outputs::specs::Outputs::each_place, crate::specs::Columns::channels_in))]
+pub fn back(
+    codes: &[u16; 256],
+    held: &[i32; 256],
+    heads: &[usize; 32],
+    counts: &[usize; 32],
+    mut channels: [Channel; 32],
+) -> [Channel; 32]
+    ensures { result ≡ channels_in codes.now held.now heads.now counts.now }
+{
+    for c in 0..32 {
+        channels[c] = channel_at(codes, held, heads, counts, c);
     }
+    channels
 }

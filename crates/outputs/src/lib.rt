@@ -5,13 +5,14 @@ ghost use Rattle.std.specs.Prelude.{◌≡◌, true, ◌<◌};
 ghost use Rattle.job.specs.Jobs.{JobSized};
 ghost use Rattle.job.specs.Fits.{Sends};
 ghost use Rattle.run.specs.Fit.{cargo_fits};
-ghost use Rattle.outputs.specs.Outputs.{is_full, some_full, all_stored, unmarked, one_more_waits, sources_wait, put, carried, put_all};
+ghost use Rattle.outputs.specs.Outputs.{is_full, some_full, all_stored, unmarked, one_more_waits, sources_wait, carried, put_all};
 
 pub mod parts;
 
-use channel::{Cargo, Channel, Item};
+use crate::parts::put_cargo;
+use channel::{Cargo, Channel};
 use job::Job;
-use job::sends::{names, place_of, sent_by};
+use job::sends::{names, place_of};
 use kinds::SOURCE;
 
 fn is_full(ch: &Channel) -> bool
@@ -68,25 +69,12 @@ pub fn sources_wait(job: Job, under_way: u8, mut waiting: [u8; 16]) -> [u8; 16]
     waiting
 }
 
-// The channel with the cargo at its end, or as it came where it is full.
-fn put(ch: Channel, cargo: Cargo) -> Channel
-    ensures { result ≡ put ch cargo }
-{
-    ch.added(Item { cargo }).channel
-}
-
 // A barrier, or what the task sends for a record, on its output at `place` of `outputs`.
 fn carried(job: &Job, t: usize, place: u32, outputs: u32, cargo: Cargo, ch: Channel) -> Channel
     requires { (t < 16) × Sends job.now × (cargo_fits cargo ≡ true) }
     ensures { result ≡ carried job.now t place outputs cargo ch }
 {
-    match cargo {
-        Cargo::Barrier => put(ch, cargo),
-        Cargo::Record(got) => match sent_by(job, t, place, outputs, got) {
-            None => ch,
-            Some(r) => put(ch, Cargo::Record(r)),
-        },
-    }
+    put_cargo(job.kinds[t], job.a[t], job.b[t], place, outputs, cargo, ch)
 }
 
 // The same on every output of the task.
