@@ -1,4 +1,4 @@
--- Laws of the tests over the numbers below n: one turn of a loop that fills a list, and what a test's answer says of each number.
+-- Laws of the tests over the numbers below n: one turn of a loop that tests, or fills a list, and what a test's answer says of each number.
 use mathlib.Core.Path.{◌≡◌, refl, ap, ap₂, ◌∙◌, sym}
 use mathlib.Core.Bool.{Bool, true, false, ◌||◌, ◌&&◌, true≢false, false≢true}
 use mathlib.Core.List.{List, [], ◌∷◌, ◌++◌}
@@ -12,6 +12,11 @@ use lib.Seq.{get_or-set_same, get_or-set_other, take-suc, take-length}
 use Rattle.std.proofs.lemmas.List.{append_assoc, length-take-le, drop-set, drop-set-add, set-append_right}
 use Rattle.job.specs.Tests.{some, every, filled, sweep, sweeps}
 use Rattle.job.proofs.Bools.{both_true, neither}
+
+-- ---- one turn of a loop that has looked at the numbers below i
+pub some_more : (p : ℕ → Bool) (i : ℕ) {found x : Bool} → found ≡ some p i → x ≡ p i → found || x ≡ some p (i + 1)
+unfolding some
+some_more p i f e = rw add-one (ap₂ ◌||◌ f e)
 
 -- ---- one turn of a loop that fills, or sweeps over, a list
 module _ {A : Type 0} where

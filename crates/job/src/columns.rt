@@ -59,11 +59,18 @@ fn is_bad_record(cylinder: i32, value: i32) -> bool
     is_outside(1, cylinder, 20) || is_outside(i32::MIN, value, i32::MAX)
 }
 
+// Every record is looked at, and the loop does not end at a bad one: so it looks at several at once, which `any` does not (each call on a
+// job looks at all of its records).
+#[tactic(auto, using(crate::proofs::Tests::some_more), unfolding(crate::specs::Tests::some, crate::specs::Columns::bad_records))]
 fn has_bad_record(records: &Records) -> bool
     requires { length records.now.values.now ≡ length records.now.cylinders.now }
     ensures { result ≡ bad_records records.now.cylinders.now records.now.values.now }
 {
-    (0..records.cylinders.len()).any(|i| is_bad_record(records.cylinders[i], records.values[i]))
+    let mut found = false;
+    for i in 0..records.cylinders.len() {
+        found |= is_bad_record(records.cylinders[i], records.values[i]);
+    }
+    found
 }
 
 #[tactic(auto, using(crate::proofs::Bools::neither), unfolding(crate::specs::Columns::fault4))]
