@@ -1,7 +1,7 @@
 // Rows written into a lent buffer: each function writes at `at` and answers the place after what it wrote.
 #![tactic(auto)]
 
-ghost use Rattle.std.specs.Prelude.{◌++◌, ◌∷◌, ◌≤◌, ◌+◌, length};
+ghost use Rattle.std.specs.Prelude.{◌≡◌, ◌++◌, ◌∷◌, ◌≤◌, ◌+◌, length};
 ghost use Rattle.rows.specs.Buffers.{Puts};
 ghost use Rattle.rows.specs.Decimals.{decimal};
 ghost use Rattle.rows.specs.Rows.{fields_of, crlf, row_of, numbers_of, refusal_of};
@@ -17,12 +17,19 @@ pub fn put_bytes(out: &mut [u8], at: usize, bytes: &[u8]) -> usize
     end
 }
 
+// The number's shortest decimal, printed into the buffer.
+fn decimal_in(buffer: &mut Buffer, z: i64) -> &[u8]
+    ensures { result.now ≡ decimal z }
+{
+    buffer.format(z).as_bytes()
+}
+
 // The number's shortest decimal.
 pub fn put_number(out: &mut [u8], at: usize, z: i64) -> usize
     requires { at + length (decimal z) ≤ length out.old }
     ensures { Puts out.old at (decimal z) out.new result }
 {
-    put_bytes(out, at, Buffer::new().format(z).as_bytes())
+    put_bytes(out, at, decimal_in(&mut Buffer::new(), z))
 }
 
 #[tactic(auto, using(crate::proofs::Putting::put_cons))]
